@@ -1,0 +1,115 @@
+-- What the calls of a builder make of the netlist so far.
+use Rattle.std.specs.Prelude.{◌≡◌, ℕ, ◌+◌, ◌<◌, Bool, true, List, [], ◌∷◌, ◌++◌, map, length, All, Option, None, Some, if◌then◌else◌, nat_eq, ◌&&◌, position, count_by}
+use Rattle.std.specs.List.{list_any, range_with_len}
+use Rattle.bb_net.specs.declared.net.Op.{Op}
+use Rattle.bb_net.specs.declared.variable.Variable.{Variable}
+use Rattle.bb_net.specs.declared.variable.BitName.{BitName}
+use Rattle.bb_net.specs.declared.builder.NetFault.{NetFault}
+use Rattle.bb_net.specs.declared.builder.NetFault.TheVariants.{Redeclared, TwoDrivers, Undriven, BadArity, TooMany, NoMemory}
+use Rattle.bb_net.specs.Net.{Gate, Flop, Netlist}
+use Rattle.bb_net.specs.Bits.{Entry, IsBit, range_width, is_input, is_output, is_port, bit_at, places_but}
+use Rattle.bb_net.specs.Named.{Named}
+
+-- at most so many nets are built
+abbrev pub net_limit : ℕ
+net_limit = 134217728
+
+-- no variables and no nets
+abbrev pub started : List ℕ → Named
+started name = record { module_name = name; variables = []; clock = None; names = []; netlist = record { inputs = []; outputs = []; gates = []; flops = [] } }
+
+-- the clock once a variable of this number was added, of which this place was given as the clock
+abbrev pub clock_with : Option BitName → ℕ → Option ℕ → Option BitName
+clock_with clock number None = clock
+clock_with clock number (Some place) = Some (record { variable = number; place = place })
+
+-- the bits that a variable of this number makes nets of at once: those of a port but the clock
+abbrev pub port_bits : ℕ → Variable → Option ℕ → List BitName
+port_bits number v place = if is_port v.role then map (bit_at number) (places_but place (range_width v.range)) else []
+
+-- the nets of such bits where they are wanted
+abbrev pub new_nets : Bool → ℕ → ℕ → List ℕ
+new_nets wanted first count = if wanted then range_with_len first count else []
+
+-- a variable behind the others
+abbrev pub with_variable : Named → List ℕ → Variable → Option ℕ → Named
+with_variable n name v place =
+    let bits = port_bits (length n.variables) v place in
+    record {
+      module_name = n.module_name;
+      variables = n.variables ++ (name, v) ∷ [];
+      clock = clock_with n.clock (length n.variables) place;
+      names = n.names ++ bits;
+      netlist = record {
+        inputs = n.netlist.inputs ++ new_nets (is_input v.role) (length n.names) (length bits);
+        outputs = n.netlist.outputs ++ new_nets (is_output v.role) (length n.names) (length bits);
+        gates = n.netlist.gates;
+        flops = n.netlist.flops;
+      };
+    }
+
+-- the place may be given as the clock of such a variable: it is a bit of an input, and the first clock
+pub record MayClock (n : Named) (v : Variable) (place : ℕ) : Type 0 where
+  pub input : is_input v.role ≡ true
+  pub within : place < range_width v.range
+  pub first : n.clock ≡ None
+
+-- two bit names are one
+abbrev pub bit_eq : BitName → BitName → Bool
+bit_eq a b = nat_eq a.variable b.variable && nat_eq a.place b.place
+
+-- the net of a bit
+abbrev pub find_of : BitName → Named → Option ℕ
+find_of bit n = position (bit_eq bit) n.names
+
+-- a net for this bit, behind the others where it has none
+abbrev pub with_net : Named → BitName → Named
+with_net n bit = record n { names = if list_any (bit_eq bit) n.names then n.names else n.names ++ bit ∷ [] }
+
+-- a gate behind the others
+abbrev pub with_gate : Named → Op → ℕ → List ℕ → Named
+with_gate n op out ins = record n { netlist = record n.netlist { gates = n.netlist.gates ++ record { op = op; out = out; ins = ins } ∷ [] } }
+
+-- a flip-flop behind the others
+abbrev pub with_flop : Named → ℕ → ℕ → Named
+with_flop n q d = record n { netlist = record n.netlist { flops = n.netlist.flops ++ record { q = q; d = d } ∷ [] } }
+
+-- the faults of a call that adds a gate
+abbrev pub IsGateFault : NetFault → Type 0
+IsGateFault (Redeclared v) = ⊥
+IsGateFault (TwoDrivers net) = ⊥
+IsGateFault (Undriven net) = ⊥
+IsGateFault (BadArity gate) = Unit {0}
+IsGateFault (TooMany count limit) = ⊥
+IsGateFault NoMemory = Unit {0}
+
+-- of one that adds a variable
+abbrev pub IsVariableFault : NetFault → Type 0
+IsVariableFault (Redeclared v) = Unit {0}
+IsVariableFault (TwoDrivers net) = ⊥
+IsVariableFault (Undriven net) = ⊥
+IsVariableFault (BadArity gate) = ⊥
+IsVariableFault (TooMany count limit) = Unit {0}
+IsVariableFault NoMemory = Unit {0}
+
+-- of one that adds a net
+abbrev pub IsNetCallFault : NetFault → Type 0
+IsNetCallFault (Redeclared v) = ⊥
+IsNetCallFault (TwoDrivers net) = ⊥
+IsNetCallFault (Undriven net) = ⊥
+IsNetCallFault (BadArity gate) = ⊥
+IsNetCallFault (TooMany count limit) = Unit {0}
+IsNetCallFault NoMemory = Unit {0}
+
+-- and of the last call
+abbrev pub IsFinishFault : NetFault → Type 0
+IsFinishFault (Redeclared v) = ⊥
+IsFinishFault (TwoDrivers net) = Unit {0}
+IsFinishFault (Undriven net) = Unit {0}
+IsFinishFault (BadArity gate) = ⊥
+IsFinishFault (TooMany count limit) = ⊥
+IsFinishFault NoMemory = Unit {0}
+
+-- how many variables are ports
+abbrev pub ports_of : List Entry → ℕ
+ports_of variables = count_by (λ v. is_port v.1.role) variables
