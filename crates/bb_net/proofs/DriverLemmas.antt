@@ -1,10 +1,10 @@
 -- The driver at a place of the list of what is driven.
-use Rattle.std.proofs.Common.{◌≡◌, ℕ, ◌+◌, ◌-◌, ◌<◌, ◌≤◌, List, ◌++◌, length, map, Option, Some, slice_get, sym, ap, ◌∙◌, arith}
-use Rattle.std.proofs.Common.{get_or, subst}
+use Rattle.std.proofs.Common.{◌≡◌, ℕ, ◌+◌, ◌-◌, ◌<◌, ◌≤◌, List, ◌++◌, length, map, Some, slice_get, sym, ap, ◌∙◌, arith}
+use Rattle.std.proofs.Common.{get_or, subst, slice_index, min}
 use Rattle.std.proofs.lemmas.List.{get_or_read}
 use Rattle.bb_net.specs.declared.netlist.Driver.TheVariants as Driver
-use Rattle.bb_net.specs.Net.{Gate, Flop, Netlist, driven}
-use Rattle.bb_net.specs.Drivers.{Drives, IsTable}
+use Rattle.bb_net.specs.Net.{Gate, Flop, Netlist, driven, times}
+use Rattle.bb_net.specs.Drivers.{Drives, IsTable, IsFirst}
 use Rattle.bb_net.proofs.Lists.{get_front, get_back, get_map, length_map}
 
 pub input_at : (ins rest : List ℕ) (p net : ℕ) → p < length ins → slice_get (ins ++ rest) p ≡ Some net → slice_get ins p ≡ Some net
@@ -58,3 +58,28 @@ flop_drives m n places net number p i g same table one within read count gates p
     subst (λ k. Drives k (Driver.Flop (p - i - g)) net) same
     (subst (λ k. Drives m (Driver.Flop (p - k - g)) net) (sym count)
     (subst (λ k. Drives m (Driver.Flop (p - length m.inputs - k)) net) (sym gates) (flop_at m.inputs m.gates m.flops p net (omega (arith, count)) (omega (arith, count, gates)) at)))
+
+-- counts of drivers that stop at 2 say whether each net has one, and which is the first that has not
+pub counts_once : (counts driven : List ℕ) (nets : ℕ) → length counts ≡ nets → ((m : ℕ) → m < nets → slice_index counts m ≡ min 2 (times m driven)) → ((m : ℕ) → m < length counts → slice_index counts m ≡ 1)
+    → (m : ℕ) → m < nets → times m driven ≡ 1
+counts_once counts driven nets long each ones m less = omega (arith, each m less, ones m (omega (arith, long)))
+
+pub counts_few : (counts driven : List ℕ) (nets : ℕ) → length counts ≡ nets → ((m : ℕ) → m < nets → slice_index counts m ≡ min 2 (times m driven)) → ((m : ℕ) → m < length counts → slice_index counts m ≤ 1)
+    → (m : ℕ) → m < nets → times m driven ≤ 1
+counts_few counts driven nets long each few m less = omega (arith, each m less, few m (omega (arith, long)))
+
+pub counts_two : (counts driven : List ℕ) (nets net : ℕ) → length counts ≡ nets → ((m : ℕ) → m < nets → slice_index counts m ≡ min 2 (times m driven)) → IsFirst (λ m. 2 ≤ slice_index counts m) (length counts) net
+    → IsFirst (λ m. 2 ≤ times m driven) nets net
+counts_two counts driven nets net long each first = record {
+  within = omega (arith, long, first.within);
+  here = omega (arith, each net (omega (arith, long, first.within)), first.here);
+  before = λ m less two. first.before m less (omega (arith, each m (omega (arith, long, first.within)), two));
+}
+
+pub counts_none : (counts driven : List ℕ) (nets net : ℕ) → length counts ≡ nets → ((m : ℕ) → m < nets → slice_index counts m ≡ min 2 (times m driven)) → IsFirst (λ m. slice_index counts m ≡ 0) (length counts) net
+    → IsFirst (λ m. times m driven ≡ 0) nets net
+counts_none counts driven nets net long each first = record {
+  within = omega (arith, long, first.within);
+  here = omega (arith, each net (omega (arith, long, first.within)), first.here);
+  before = λ m less none. first.before m less (omega (arith, each m (omega (arith, long, first.within)), none));
+}

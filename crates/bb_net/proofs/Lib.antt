@@ -1,3 +1,9 @@
 pub mod Lists
 pub mod BitLemmas
+pub mod TimesLemmas
+pub mod ConsistentLemmas
+pub mod PlaceLemmas
+pub mod VariableLemmas
+pub mod NamedLemmas
+pub mod Renamed
 pub mod DriverLemmas

@@ -1,5 +1,7 @@
 -- General facts on lists.
-use Rattle.std.proofs.Common.{◌≡◌, ℕ, ◌+◌, ◌-◌, ◌<◌, ◌≤◌, zero, suc, List, [], ◌∷◌, ◌++◌, length, map, take, drop, Option, Some, None, slice_get, refl, sym, ap, ◌∙◌, arith}
+use Rattle.std.proofs.Common.{◌≡◌, ℕ, ◌+◌, ◌<◌, zero, suc, List, [], ◌∷◌, ◌++◌, length, map, take, Some, slice_get, refl, ap, ◌∙◌, arith}
+use Rattle.std.proofs.Common.{All}
+use Rattle.std.proofs.lemmas.List.Elements.{All-from_recursion, recursion_from_All}
 use Rattle.std.specs.List.{AllByRecursion}
 
 -- facts of all items of two joined lists, and of each of them
@@ -73,3 +75,15 @@ pub get_some : {X : Type 0} (xs : List X) (i : ℕ) → i < length xs → (x : X
 get_some [] i h = absurd (omega arith)
 get_some (x ∷ xs) zero h = (x, refl)
 get_some (x ∷ xs) (suc i) h = get_some xs i (omega arith)
+
+-- what holds of all items of two joined lists holds of those of each
+pub in_front : {X : Type 0} (P : X → Type 0) (xs ys : List X) → All P (xs ++ ys) → All P xs
+in_front P xs ys h = All-from_recursion P xs (all_front P xs ys (recursion_from_All P (xs ++ ys) h))
+
+pub in_back : {X : Type 0} (P : X → Type 0) (xs ys : List X) → All P (xs ++ ys) → All P ys
+in_back P xs ys h = All-from_recursion P ys (all_back P xs ys (recursion_from_All P (xs ++ ys) h))
+
+-- maps by functions that agree at the items
+pub same_map_at : {X Y : Type 0} (f g : X → Y) (P : X → Type 0) → ((x : X) → P x → f x ≡ g x) → (xs : List X) → AllByRecursion P xs → map f xs ≡ map g xs
+same_map_at f g P e [] h = refl
+same_map_at f g P e (x ∷ xs) h = λ i. e x h.0 i ∷ same_map_at f g P e xs h.1 i

@@ -1,14 +1,13 @@
 -- What the calls of a builder make of the netlist so far.
-use Rattle.std.specs.Prelude.{◌≡◌, ℕ, ◌+◌, ◌<◌, Bool, true, List, [], ◌∷◌, ◌++◌, map, length, All, Option, None, Some, if◌then◌else◌, nat_eq, ◌&&◌, position, count_by}
+use Rattle.std.specs.Prelude.{◌≡◌, ℕ, ◌+◌, ◌<◌, ◌≤◌, Bool, true, List, [], ◌∷◌, ◌++◌, map, length, Option, None, Some, if◌then◌else◌, nat_eq, ◌&&◌, position, count_by}
 use Rattle.std.specs.List.{list_any, range_with_len}
 use Rattle.bb_net.specs.declared.net.Op.{Op}
 use Rattle.bb_net.specs.declared.variable.Variable.{Variable}
 use Rattle.bb_net.specs.declared.variable.BitName.{BitName}
 use Rattle.bb_net.specs.declared.builder.NetFault.{NetFault}
 use Rattle.bb_net.specs.declared.builder.NetFault.TheVariants.{Redeclared, TwoDrivers, Undriven, BadArity, TooMany, NoMemory}
-use Rattle.bb_net.specs.Net.{Gate, Flop, Netlist}
-use Rattle.bb_net.specs.Bits.{Entry, IsBit, range_width, is_input, is_output, is_port, bit_at, places_but}
-use Rattle.bb_net.specs.Named.{Named}
+use Rattle.bb_net.specs.Bits.{Entry, range_width, is_input, is_output, is_port, bit_at, places_but}
+use Rattle.bb_net.specs.Named.{Named, lookup_of}
 
 -- at most so many nets are built
 abbrev pub net_limit : ℕ
@@ -53,6 +52,13 @@ pub record MayClock (n : Named) (v : Variable) (place : ℕ) : Type 0 where
   pub input : is_input v.role ≡ true
   pub within : place < range_width v.range
   pub first : n.clock ≡ None
+
+-- such a variable makes more nets than are built: so many, where the most is the limit
+pub record IsTooMany (n : Named) (name : List ℕ) (v : Variable) (place : Option ℕ) (count limit : ℕ) : Type 0 where
+  pub fresh : lookup_of name n ≡ None
+  pub count_is : count ≡ length n.names + length (port_bits (length n.variables) v place)
+  pub limit_is : limit ≡ net_limit
+  pub beyond : limit < count
 
 -- two bit names are one
 abbrev pub bit_eq : BitName → BitName → Bool
@@ -113,3 +119,16 @@ IsFinishFault NoMemory = Unit {0}
 -- how many variables are ports
 abbrev pub ports_of : List Entry → ℕ
 ports_of variables = count_by (λ v. is_port v.1.role) variables
+
+-- of a look at the drivers
+abbrev pub IsDriverFault : NetFault → Type 0
+IsDriverFault (Redeclared v) = ⊥
+IsDriverFault (TwoDrivers net) = Unit {0}
+IsDriverFault (Undriven net) = Unit {0}
+IsDriverFault (BadArity gate) = ⊥
+IsDriverFault (TooMany count limit) = ⊥
+IsDriverFault NoMemory = ⊥
+
+-- the bit comes before those of this variable from this place on
+abbrev pub IsEarlier : ℕ → ℕ → BitName → Type 0
+IsEarlier number place bit = (bit.variable ≡ number → bit.place < place) × (bit.variable ≤ number)

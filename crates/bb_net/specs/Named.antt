@@ -1,5 +1,5 @@
 -- A named netlist, and the design that it is under the names of texts.
-use Rattle.std.specs.Prelude.{◌≡◌, ◌≢◌, ◌↔◌, ℕ, ◌<◌, ◌≤◌, Bool, true, false, List, [], ◌∷◌, ◌++◌, map, length, All, AllPairs, Contains, Option, None, Some, IsSome, slice_get, slice_index_or, position}
+use Rattle.std.specs.Prelude.{◌≡◌, ◌≢◌, ◌↔◌, ℕ, ◌<◌, ◌≤◌, true, List, ◌++◌, map, length, All, AllPairs, Option, Some, IsSome, slice_get, slice_index_or, position}
 use Rattle.std.specs.Option.{option_map, ForSome}
 use Rattle.std.specs.Str.{bytes_eq}
 use Rattle.bb_net.specs.Net.{Netlist, renamed, driven, reads, times, HasArity, IsNetlist}

@@ -8,13 +8,16 @@
 #![tactic(auto)]
 
 mod builder;
+mod drivers;
+mod laws;
 mod name;
 mod named;
 mod net;
 mod netlist;
 mod variable;
 
-pub use builder::NetFault;
+pub use builder::{Builder, NetFault};
+pub use laws::runs_by_name;
 pub use name::Name;
 pub use named::Named;
 pub use net::{Flop, Gate, NetId, Op};
