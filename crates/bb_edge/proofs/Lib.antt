@@ -1,0 +1,5 @@
+pub mod FileLemmas
+pub mod MemoryLemmas
+pub mod SureLemmas
+pub mod TellsNothing
+mod Walks
