@@ -1,0 +1,17 @@
+pub mod Words
+pub mod Shorter
+pub mod MoreBits
+pub mod Drafts
+pub mod Again
+pub mod LineAgain
+pub mod Clean
+pub mod Texts
+pub mod BitAgain
+pub mod OneDesign
+pub mod Designs
+pub mod Sections
+pub mod SectionsOf
+pub mod Ports
+pub mod Keeps
+pub mod Nets
+pub mod Parts

@@ -1,0 +1,9 @@
+use Rattle.std.proofs.Common.{ℕ, List, length}
+use Rattle.bb_print.specs.Lines.{IsSection, clocks, flop_of}
+use Rattle.bb_print.proofs.read.read_flops.Given as goal
+
+abbrev pub invariant-lines : goal.invariant-lines
+invariant-lines l = (others : List (List ℕ)) → IsSection clocks flop_of l.text others → IsSection clocks flop_of l.rest others
+
+abbrev pub decreases-lines : goal.decreases-lines
+decreases-lines l = length l.rest

@@ -1,0 +1,303 @@
+ghost use Rattle.std.specs.Prelude.{◌≡◌, ◌≢◌, ◌<◌, ◌≤◌, ◌+◌, ◌-◌, ◌^◌, ◌++◌, ◌∷◌, [], ℕ, List, All, length, map, IfOk, OnOk, OnErr, IfErr, IfSome, IsSome, IsErrOf, Option, Some, None, slice_get, true, false, Bool, IsTrue};
+ghost use Rattle.std.specs.Option.{ForSome};
+ghost use Rattle.std.specs.List.{list_all};
+ghost use Rattle.bb_net.specs.Bits.{Bit, IsBit, IsRange, range_width, is_input, is_port, bit_at, Entry};
+ghost use Rattle.bb_net.specs.Named.{Named as NamedValue, IsNamed, IsConsistent, lookup_of};
+ghost use Rattle.bb_net.specs.Building.{started, with_variable, MayClock, with_net, with_gate, with_flop, clock_with};
+ghost use Rattle.bb_print.specs.Faults.{NamesNoLine};
+ghost use Rattle.bb_print.specs.Drafting.{place_in, place_of, named_bit, canon_fault, may_follow};
+
+use crate::line::is_port_role;
+use crate::scan::BitText;
+use crate::statement::{Instance, Statement};
+use bb_net::{BitName, Builder, Name, Named, NetFault, NetId, Role, Variable};
+use std::alloc::{AllocError, AllocFailed, Global};
+use std::marker::Model;
+
+/// Why a text isn't read.
+#[derive(Clone, Copy, Debug, PartialEq, Eq)]
+pub enum CanonFault {
+    /// A line that isn't canonical in its place.
+    Line { line: u32 },
+    /// Lines that no named netlist has.
+    Unfit,
+    NoMemory,
+}
+
+impl From<AllocError> for CanonFault {
+    ghost use Rattle.std.specs.Prelude.{◌≡◌};
+    ghost use Rattle.bb_print.specs.declared.draft.CanonFault.TheVariants.{NoMemory};
+
+    ghost from_gives = { λ _ e. e ≡ NoMemory };
+
+    fn from(_: AllocError) -> Self {
+        CanonFault::NoMemory
+    }
+}
+
+impl<T: Drop> From<AllocFailed<T>> for CanonFault {
+    ghost use Rattle.std.specs.Prelude.{◌≡◌};
+    ghost use Rattle.bb_print.specs.declared.draft.CanonFault.TheVariants.{NoMemory};
+
+    ghost from_gives = { λ _ e. e ≡ NoMemory };
+
+    fn from(_: AllocFailed<T>) -> Self {
+        CanonFault::NoMemory
+    }
+}
+
+impl From<NetFault> for CanonFault {
+    ghost use Rattle.std.specs.Prelude.{◌≡◌};
+    ghost use Rattle.bb_print.specs.Drafting.{canon_fault};
+
+    ghost from_gives = { λ f e. e ≡ canon_fault f };
+
+    fn from(fault: NetFault) -> Self {
+        match fault {
+            NetFault::NoMemory => CanonFault::NoMemory,
+            _ => CanonFault::Unfit,
+        }
+    }
+}
+
+/// The place of an index of a range, from the left.
+fn place_in(range: (u32, u32), index: u32) -> Option<u32>
+    ensures value { result ≡ place_in range index }
+    ensures within { IfSome result (λ place. place < range_width (Some range)) }
+{
+    let (left, right) = range;
+    if left <= right {
+        if left <= index && index <= right {
+            return Some(index - left);
+        }
+        return None;
+    }
+    if right <= index && index <= left {
+        return Some(left - index);
+    }
+    None
+}
+
+/// The place of an index, from the left: the only one where the variable is no vector.
+fn place_of(range: Option<(u32, u32)>, index: Option<u32>) -> Option<u32>
+    ensures value { result ≡ place_of range index }
+    ensures within { IfSome result (λ place. place < range_width range) }
+{
+    match (range, index) {
+        (None, None) => Some(0),
+        (Some(range), Some(index)) => place_in(range, index),
+        _ => None,
+    }
+}
+
+/// The clock's bit once a variable of this number was added, of which this place was given as the clock.
+fn clock_after(clock: Option<BitName>, variable: u32, place: Option<u32>) -> Option<BitName>
+    ensures { result ≡ clock_with clock variable place }
+{
+    match place {
+        Some(place) => Some(BitName { variable, place }),
+        None => clock,
+    }
+}
+
+/// A netlist that is being read: a builder, with what it must be known of it.
+#[derive(Drop)]
+pub(crate) struct Draft {
+    builder: Builder,
+    variables: Vec<Variable>,
+    only_ports: bool,
+    clock: Option<BitName>,
+    gates: u32,
+    flops: u32,
+}
+
+impl Model for Draft {
+    ghost use Rattle.std.specs.Prelude.{◌≡◌, map, length};
+    ghost use Rattle.std.specs.List.{list_all};
+    ghost use Rattle.bb_net.specs.Bits.{is_port};
+    ghost use Rattle.bb_net.specs.Named.{Named as NamedValue};
+
+    ghost Value = { NamedValue };
+
+    ghost view = { λ d. d.builder };
+
+    ghost invariant = { λ d. (d.variables.items ≡ map (λ v. v.1) d.builder.variables)
+        × (d.only_ports ≡ list_all (λ v. is_port v.1.role) d.builder.variables)
+        × (d.clock ≡ d.builder.clock)
+        × (d.gates ≡ length d.builder.netlist.gates)
+        × (d.flops ≡ length d.builder.netlist.flops) };
+}
+
+impl Draft {
+    /// A module with this name, without variables and nets.
+    pub(crate) fn new(alloc: Global, name: Name) -> Result<Draft, AllocError>
+        ensures { IfOk result (λ draft. draft ≡ started name) }
+    {
+        // `bytes` ensures that the name is one.
+        let _valid = name.bytes();
+        Ok(Draft {
+            builder: Builder::new(alloc, name)?,
+            variables: Vec::new(alloc),
+            only_ports: true,
+            clock: None,
+            gates: 0,
+            flops: 0,
+        })
+    }
+
+    /// The place of the clock's bit, where it is one of such a variable.
+    fn clock_place(&self, name: &Name, variable: Variable, clock: &Option<BitText>) -> Option<u32>
+        ensures { ForSome result (MayClock self.now variable) }
+    {
+        let Some(clock) = clock else {
+            return None;
+        };
+        if self.clock.is_some() || variable.role != Role::Input || clock.name != *name {
+            return None;
+        }
+        place_of(variable.range, clock.index)
+    }
+
+    /// Whether a variable may come next, where it is a port or a wire.
+    fn may_follow(&self, port: bool) -> bool
+        ensures value { result ≡ may_follow self.now port }
+        ensures ports { IsTrue result → port ≡ true → All (λ v. is_port v.1.role ≡ true) self.now.variables }
+        ensures few { IsTrue result → length self.now.variables < 2 ^ 32 - 1 }
+        ensures tracked { IsTrue result → port ≡ true → list_all (λ v. is_port v.1.role) self.now.variables ≡ true }
+    {
+        if port && !self.only_ports {
+            return false;
+        }
+        self.variables.len() < 4_294_967_295
+    }
+
+    /// Adds a variable, where a bit of it may be the clock.
+    pub(crate) fn declare(
+        &mut self,
+        name: Name,
+        variable: Variable,
+        clock: &Option<BitText>,
+    ) -> Result<(), CanonFault>
+        requires { IsRange variable.range }
+        ensures only { IfErr result NamesNoLine }
+    {
+        let port = is_port_role(variable.role);
+        if !self.may_follow(port) {
+            return Err(CanonFault::Unfit);
+        }
+        let clock = self.clock_place(&name, variable, clock);
+        self.variables.push(variable)?;
+        match self
+            .builder
+            .variable(name, variable.range, variable.role, clock)
+        {
+            Ok(number) => {
+                self.only_ports = port;
+                self.clock = clock_after(self.clock, number, clock);
+                Ok(())
+            }
+            Err(fault) => {
+                self.variables.pop();
+                Err(CanonFault::from(fault))
+            }
+        }
+    }
+
+    /// The bit that a text names.
+    fn bit(&self, text: &BitText) -> Option<BitName>
+        ensures value { result ≡ named_bit self.now text.now }
+        ensures stands { IfSome result (IsBit self.now.variables) }
+    {
+        let number = self.builder.lookup(&text.name)?;
+        let variable = self.variables[number as usize];
+        let place = place_of(variable.range, text.index)?;
+        Some(BitName {
+            variable: number,
+            place,
+        })
+    }
+
+    /// The net that a text names, which is made where it is named first.
+    #[tactic(auto, using(crate::proofs::Drafts::names_within))]
+    fn net(&mut self, text: &BitText) -> Result<NetId, CanonFault>
+        ensures found { IfOk result (λ net. slice_get self.new.names net ≡ named_bit self.old text.now) }
+        ensures grows { length self.old.names ≤ length self.new.names }
+        ensures netlist { self.new.netlist ≡ self.old.netlist }
+        ensures within { IfOk result (λ net. net < length self.new.names) }
+        ensures only { IfErr result NamesNoLine }
+    {
+        let Some(bit) = self.bit(text) else {
+            return Err(CanonFault::Unfit);
+        };
+        if self.clock == Some(bit) {
+            return Err(CanonFault::Unfit);
+        }
+        Ok(self.builder.net(bit.variable, bit.place)?)
+    }
+
+    /// The nets that texts name.
+    fn nets(&mut self, alloc: Global, texts: &[BitText]) -> Result<Vec<NetId>, CanonFault>
+        ensures grows { length self.old.names ≤ length self.new.names }
+        ensures netlist { self.new.netlist ≡ self.old.netlist }
+        ensures only { IfErr result NamesNoLine }
+        ensures within { IfOk result (λ nets. All (λ net. net < length self.new.names) nets.items) }
+    {
+        let mut nets = Vec::new(alloc);
+        'texts: for text in texts {
+            nets.push(self.net(text)?)?;
+        }
+        Ok(nets)
+    }
+
+    /// Adds a gate.
+    pub(crate) fn state(&mut self, alloc: Global, statement: &Statement) -> Result<(), CanonFault>
+        ensures only { IfErr result NamesNoLine }
+    {
+        let out = self.net(&statement.out)?;
+        let ins = self.nets(alloc, &statement.ins)?;
+        if self.gates == u32::MAX {
+            return Err(CanonFault::Unfit);
+        }
+        self.builder.gate(statement.op, out, &ins)?;
+        self.gates += 1;
+        Ok(())
+    }
+
+    /// Adds a flip-flop.
+    pub(crate) fn clocked(&mut self, instance: &Instance) -> Result<(), CanonFault>
+        ensures only { IfErr result NamesNoLine }
+    {
+        let Some(clock) = self.bit(&instance.clock) else {
+            return Err(CanonFault::Unfit);
+        };
+        if self.clock != Some(clock) {
+            return Err(CanonFault::Unfit);
+        }
+        let q = self.net(&instance.q)?;
+        let d = self.net(&instance.d)?;
+        if self.flops == u32::MAX {
+            return Err(CanonFault::Unfit);
+        }
+        self.builder.flop(q, d)?;
+        self.flops += 1;
+        Ok(())
+    }
+
+    /// The netlist.
+    pub(crate) fn finish(self) -> Result<Named, CanonFault>
+        ensures only { IfErr result NamesNoLine }
+    {
+        if self.clock.is_some() != (self.flops > 0) {
+            return Err(CanonFault::Unfit);
+        }
+        let Draft {
+            builder,
+            variables: _variables,
+            only_ports: _,
+            clock: _,
+            gates: _,
+            flops: _,
+        } = self;
+        Ok(builder.finish()?)
+    }
+}
