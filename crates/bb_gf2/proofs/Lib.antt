@@ -1,0 +1,11 @@
+pub mod Xor
+pub mod Codes
+pub mod Low
+pub mod Combine
+pub mod Pairing
+pub mod DualSteps
+pub mod Steps
+pub mod Rows
+pub mod Cosets
+pub mod Existence
+pub mod BitLaws

@@ -1,0 +1,6 @@
+use Rattle.std.proofs.Common.{take}
+use Rattle.bb_gf2.specs.Span.{IsInCoset, IsLeast}
+use Rattle.bb_gf2.proofs.spans.reduced.Given as goal
+
+abbrev pub invariant-loop-row : goal.invariant-loop-row
+invariant-loop-row l = IsLeast (IsInCoset (take l.row-index l.rows) l.v) l.least

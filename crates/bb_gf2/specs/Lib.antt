@@ -1,0 +1,5 @@
+pub mod Bits
+pub mod Parity
+pub mod Span
+pub mod Dual
+pub mod Reduced
