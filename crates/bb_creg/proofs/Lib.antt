@@ -1,0 +1,5 @@
+pub mod Injective
+pub mod Orbit
+pub mod WalkSteps
+pub mod BitSteps
+pub mod Linear

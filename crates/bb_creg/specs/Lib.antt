@@ -1,0 +1,4 @@
+pub mod Register
+pub mod Walk
+pub mod OnBits
+pub mod Signature
