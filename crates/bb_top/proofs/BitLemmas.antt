@@ -1,0 +1,16 @@
+-- the bits of variables, counted one variable after another
+use Rattle.std.proofs.Common.{◌≡◌, ℕ, ◌+◌, ◌<◌, ◌≤◌, List, length, take, Some, slice_get, ap, ◌∙◌}
+use Rattle.std.proofs.lemmas.List.Sums.{sum_by_more, sum_by-take-le}
+use Rattle.std.proofs.lemmas.Option.{get_or_from_slice_get}
+use Rattle.bb_net.specs.Bits.{Entry, range_width}
+use Rattle.bb_top.specs.Reads.{bits_of}
+
+-- one more variable
+pub bits_more : (variables : List Entry) (i : ℕ) (v : Entry) → i < length variables → slice_get variables i ≡ Some v
+    → bits_of (take (i + 1) variables) ≡ bits_of (take i variables) + range_width v.1.range
+bits_more variables i v below at =
+    sum_by_more (λ w. range_width w.1.range) variables i v below ∙ ap (λ w. bits_of (take i variables) + range_width w.1.range) (get_or_from_slice_get variables i v v at)
+
+-- some variables have at most the bits of all
+pub bits_le : (variables : List Entry) (i : ℕ) → bits_of (take i variables) ≤ bits_of variables
+bits_le variables i = sum_by-take-le (λ w. range_width w.1.range) variables i

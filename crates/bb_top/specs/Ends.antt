@@ -1,0 +1,76 @@
+-- How a call may end, and what the files then hold. The lines and the limit are this project's own.
+use Rattle.std.specs.Prelude.{◌≡◌, ◌<◌, ◌≤◌, ℕ, List, length, codes, Option, Some, None}
+use Rattle.bb_edge.specs.Told.{Told, Held, Shows, SameBut, KeepsOrStarts, AppendsFront}
+use Rattle.bb_top.specs.Words.{Command, command_of, output_name}
+use Rattle.bb_top.specs.Reads.{IsMade}
+
+-- the most bytes of the input
+abbrev pub file_limit : ℕ
+file_limit = 67108864
+
+-- why an input is refused
+pub data Refusal : Type 0 where
+  TooLong : Refusal
+  NotRead : Refusal
+
+-- the line of a refusal
+abbrev pub refusal_line : Refusal → List ℕ
+refusal_line TooLong = codes "refused input: too long\n"
+refusal_line NotRead = codes "refused input: not yet read\n"
+
+-- the line of words that mean no command
+abbrev pub usage_line : List ℕ
+usage_line = codes "usage: bilbo compile IN PREFIX\n"
+
+-- the line of a call that is done
+abbrev pub done_line : List ℕ
+done_line = codes "done\n"
+
+-- the text has this refusal: it is too long, or it isn't
+abbrev pub IsRefused : Refusal → List ℕ → Type 0
+IsRefused TooLong text = file_limit < length text
+IsRefused NotRead text = length text ≤ file_limit
+
+-- the call is done: the output file is made of the input's text, and no other file changed
+pub record IsDone (words : List (List ℕ)) (old new : List ℕ → Told) : Type 0 where
+  pub command : Command
+  pub meant : command_of words ≡ Some command
+  pub file : (text : List ℕ) → old command.input ≡ Held text → (made : List ℕ) × IsMade text made × Shows (new (output_name command)) made
+  pub others : SameBut (output_name command) old new
+
+-- the input is refused: its text has this refusal
+pub record IsRefusal (refusal : Refusal) (words : List (List ℕ)) (old : List ℕ → Told) : Type 0 where
+  pub command : Command
+  pub meant : command_of words ≡ Some command
+  pub cause : (text : List ℕ) → old command.input ≡ Held text → IsRefused refusal text
+
+-- a write failed: the output file holds what it held, or a front of what is made of the input's text, and no other file changed
+pub record IsUnwritten (words : List (List ℕ)) (old new : List ℕ → Told) : Type 0 where
+  pub command : Command
+  pub meant : command_of words ≡ Some command
+  pub file : (text : List ℕ) → old command.input ≡ Held text → (made : List ℕ) × IsMade text made × KeepsOrStarts (old (output_name command)) (new (output_name command)) made
+  pub others : SameBut (output_name command) old new
+
+-- the answers that put a line
+pub data Answer : Type 0 where
+  Done : Answer
+  Refused : (refusal : Refusal) → Answer
+  Usage : Answer
+
+-- the line of an answer
+abbrev pub answer_line : Answer → List ℕ
+answer_line Done = done_line
+answer_line (Refused refusal) = refusal_line refusal
+answer_line Usage = usage_line
+
+-- the words and the files are as this answer says: only a call that is done changes a file
+abbrev pub IsAnswer : Answer → List (List ℕ) → (List ℕ → Told) → (List ℕ → Told) → Type 0
+IsAnswer Done words old new = IsDone words old new
+IsAnswer (Refused refusal) words old new = IsRefusal refusal words old × (new ≡ old)
+IsAnswer Usage words old new = (command_of words ≡ None) × (new ≡ old)
+
+-- the sink failed: all is as the answer says, whose line was put only in front
+pub record IsUnsaid (words : List (List ℕ)) (old new : List ℕ → Told) (told_old told_new : Option (List ℕ)) : Type 0 where
+  pub answer : Answer
+  pub files : IsAnswer answer words old new
+  pub line : AppendsFront told_old told_new (answer_line answer)

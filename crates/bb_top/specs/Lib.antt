@@ -1,0 +1,9 @@
+pub mod Thin
+pub mod ThinText
+pub mod Normal
+pub mod Weaving
+pub mod Layout
+pub mod Woven
+pub mod Words
+pub mod Reads
+pub mod Ends

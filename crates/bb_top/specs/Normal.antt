@@ -1,0 +1,48 @@
+-- Normal operation: outside a test one netlist runs as another does, at the nets that both have.
+use Rattle.std.specs.Prelude.{◌≡◌, ◌+◌, List, [], ◌∷◌, ◌++◌, length, map, take, Bool, false}
+use Rattle.std.specs.List.{AllByRecursion}
+use Rattle.bb_net.specs.Net.{Netlist, driven}
+use Rattle.bb_net.specs.Run.{IsRun}
+use Rattle.bb_net.specs.Bits.{Bit}
+use Rattle.bb_top.specs.declared.wire.Wire.TheVariants.{Test, Init, So, Done}
+use Rattle.bb_top.specs.ThinText.{wire_name, scalar_bit}
+
+abbrev pub bit_test : Bit
+bit_test = scalar_bit (wire_name Test)
+
+abbrev pub bit_init : Bit
+bit_init = scalar_bit (wire_name Init)
+
+abbrev pub bit_so : Bit
+bit_so = scalar_bit (wire_name So)
+
+abbrev pub bit_done : Bit
+bit_done = scalar_bit (wire_name Done)
+
+-- no cycle is one of a test
+abbrev pub IsNormal : List (Bit → Bool) → Type 0
+IsNormal vs = AllByRecursion (λ v. v bit_test ≡ false) vs
+
+-- the inputs of each cycle outside a test: the original's, 0 for `bt_test`, and a bit for `bt_init`
+abbrev pub with_init : List (List Bool) → List Bool → List (List Bool)
+with_init [] inits = []
+with_init (i ∷ is) [] = []
+with_init (i ∷ is) (b ∷ bs) = (i ++ false ∷ b ∷ []) ∷ with_init is bs
+
+-- in each cycle the second values are the first at these nets
+abbrev pub AgreeAt : List Bit → List (Bit → Bool) → List (Bit → Bool) → Type 0
+AgreeAt nets [] [] = Unit {0}
+AgreeAt nets (v ∷ vs) (w ∷ ws) = AllByRecursion (λ net. w net ≡ v net) nets × AgreeAt nets vs ws
+AgreeAt nets [] (w ∷ ws) = ⊥
+AgreeAt nets (v ∷ vs) [] = ⊥
+
+-- b runs as a does: nets of one name are the same net
+pub record RunsAlike (a b : Netlist Bit) : Type 0 where
+  -- b's inputs are a's and two more, and its outputs a's and two more
+  pub inputs : b.inputs ≡ a.inputs ++ bit_test ∷ bit_init ∷ []
+  pub outputs : b.outputs ≡ a.outputs ++ bit_so ∷ bit_done ∷ []
+  -- every run of b with `bt_test` 0 throughout is, at a's nets, a run of a with a's inputs, and so with the same outputs
+  pub as_original : (s : List Bool) (is : List (List Bool)) (vs : List (Bit → Bool)) → IsRun b s is vs → IsNormal vs → IsRun a (take (length a.flops) s) (map (take (length a.inputs)) is) vs
+  -- every run of a is such a run of b, for every list of `bt_init` bits and every start of the added flip-flops
+  pub as_written : (s extra inits : List Bool) (is : List (List Bool)) (vs : List (Bit → Bool)) → IsRun a s is vs → length inits ≡ length is → length a.flops + length extra ≡ length b.flops
+      → (ws : List (Bit → Bool)) × IsRun b (s ++ extra) (with_init is inits) ws × AgreeAt (driven a) vs ws

@@ -1,0 +1,114 @@
+ghost use Rattle.std.specs.Prelude.{◌≡◌, ◌≢◌, ◌⊎◌, ◌≤◌, map, ℕ, List, Some, None, string_bytes, IfOk, IsErrOf, length};
+ghost use Rattle.std.specs.Option.{ForSome};
+ghost use Rattle.bb_edge.specs.Causes.{Rose};
+ghost use Rattle.bb_edge.specs.Told.{Held, AppendsAll};
+ghost use Rattle.bb_top.specs.Words.{command_of, output_name, Command as CommandValue};
+ghost use Rattle.bb_top.specs.Reads.{IsMade};
+ghost use Rattle.bb_top.specs.Ends.{Refusal, TooLong, NotRead, IsRefused, IsDone, IsRefusal, IsUnwritten, IsUnsaid, file_limit, refusal_line, usage_line, done_line};
+
+use crate::make::{MakeFault, make};
+use crate::read::{ReadFault, read_whole};
+use crate::words::{Command, command_in};
+use crate::write::write_whole;
+use bb_edge::{Failed, Sink, Store};
+use std::alloc::Global;
+
+/// The most bytes of the input.
+const FILE_LIMIT: u64 = 67_108_864;
+
+/// Why nothing is written.
+enum Stop {
+    Read,
+    TooLong,
+    NotRead,
+    NoMemory,
+}
+
+/// Reads a file and makes what is to be written.
+fn prepare<S: Store>(alloc: Global, store: &mut S, input: &str) -> Result<Vec<u8>, Stop>
+    requires { S.may_read input.now }
+    ensures made { IfOk result (λ made. (text : List ℕ) → S.holds store.old input.now ≡ Held text → (length text ≤ file_limit) × IsMade text made.items) }
+    ensures read { IsErrOf result Stop.Read → Rose (S.read_faults store.old) (S.read_faults store.new) }
+    ensures too_long { IsErrOf result Stop.TooLong → (text : List ℕ) → S.holds store.old input.now ≡ Held text → IsRefused TooLong text }
+    ensures not_read { IsErrOf result Stop.NotRead → (text : List ℕ) → S.holds store.old input.now ≡ Held text → IsRefused NotRead text }
+    ensures later { S.read_faults store.old ≤ S.read_faults store.new }
+    ensures contents { S.holds store.new ≡ S.holds store.old }
+    ensures writing { S.writing store.new ≡ S.writing store.old }
+    ensures write_faults { S.write_faults store.new ≡ S.write_faults store.old }
+{
+    let text = match read_whole(alloc, store, input, FILE_LIMIT) {
+        Ok(text) => text,
+        Err(ReadFault::Read) => return Err(Stop::Read),
+        Err(ReadFault::TooLong) => return Err(Stop::TooLong),
+        Err(ReadFault::NoMemory) => return Err(Stop::NoMemory),
+    };
+    match make(alloc, &text) {
+        Ok(made) => Ok(made),
+        Err(MakeFault::NotRead) => Err(Stop::NotRead),
+        Err(MakeFault::NoMemory) => Err(Stop::NoMemory),
+    }
+}
+
+/// Reads the words, does what they say, puts a line, and answers the status: 0 where it is done, 1 where the input is refused,
+/// 2 where the words mean no command, 3 where reading failed, 4 where writing failed, 5 where memory was wanting.
+pub fn bilbo<S: Store, K: Sink>(alloc: Global, words: &[String], store: &mut S, out: &mut K) -> u8
+    // The names that the command reads and writes may be read and written. Words that mean no command ask nothing.
+    requires names { ForSome (command_of (map (λ w. string_bytes w) words.now)) (λ c. S.may_read c.input × S.may_write (output_name c)) }
+    requires free { S.writing store.old ≡ None }
+
+    ensures free { S.writing store.new ≡ None }
+    ensures status { result ≤ 5 }
+
+    ensures done { result ≡ 0 → IsDone (map (λ w. string_bytes w) words.now) (S.holds store.old) (S.holds store.new) × AppendsAll (K.told out.old) (K.told out.new) done_line }
+    ensures refused { result ≡ 1 → (refusal : Refusal) × IsRefusal refusal (map (λ w. string_bytes w) words.now) (S.holds store.old)
+        × AppendsAll (K.told out.old) (K.told out.new) (refusal_line refusal) × (S.holds store.new ≡ S.holds store.old) }
+    ensures usage { result ≡ 2 → (command_of (map (λ w. string_bytes w) words.now) ≡ None)
+        × AppendsAll (K.told out.old) (K.told out.new) usage_line × (S.holds store.new ≡ S.holds store.old) }
+    ensures read { result ≡ 3 → Rose (S.read_faults store.old) (S.read_faults store.new)
+        × (K.told out.new ≡ K.told out.old) × (S.holds store.new ≡ S.holds store.old) }
+    ensures write { result ≡ 4
+        → (Rose (S.write_faults store.old) (S.write_faults store.new) × (K.told out.new ≡ K.told out.old) × IsUnwritten (map (λ w. string_bytes w) words.now) (S.holds store.old) (S.holds store.new))
+        ⊎ (Rose (K.faults out.old) (K.faults out.new) × IsUnsaid (map (λ w. string_bytes w) words.now) (S.holds store.old) (S.holds store.new) (K.told out.old) (K.told out.new)) }
+    ensures memory { result ≡ 5 → (K.told out.new ≡ K.told out.old) × (S.holds store.new ≡ S.holds store.old) }
+
+    // Words that mean no command are answered so, unless the sink fails.
+    ensures always_usage { command_of (map (λ w. string_bytes w) words.now) ≡ None → (result ≡ 2) ⊎ (result ≡ 4) }
+    // A text that is too long isn't called done.
+    ensures always_too_long { (c : CommandValue) (text : List ℕ) → command_of (map (λ w. string_bytes w) words.now) ≡ Some c → S.holds store.old c.input ≡ Held text
+        → IsRefused TooLong text → (result ≢ 0) × (result ≢ 2) }
+{
+    let Some(Command { input, prefix }) = command_in(words) else {
+        return match out.put(b"usage: bilbo compile IN PREFIX\n") {
+            Ok(()) => 2,
+            Err(Failed) => 4,
+        };
+    };
+    let made = match prepare(alloc, store, input) {
+        Ok(made) => made,
+        Err(Stop::Read) => return 3,
+        Err(Stop::NoMemory) => return 5,
+        Err(Stop::TooLong) => {
+            return match out.put(b"refused input: too long\n") {
+                Ok(()) => 1,
+                Err(Failed) => 4,
+            };
+        }
+        Err(Stop::NotRead) => {
+            return match out.put(b"refused input: not yet read\n") {
+                Ok(()) => 1,
+                Err(Failed) => 4,
+            };
+        }
+    };
+    let Ok(name) = format!(in alloc; "{prefix}.v") else {
+        return 5;
+    };
+    match write_whole(store, name.as_str(), &made) {
+        Ok(()) => {}
+        Err(Failed) => return 4,
+    }
+    match out.put(b"done\n") {
+        Ok(()) => 0,
+        Err(Failed) => 4,
+    }
+}
