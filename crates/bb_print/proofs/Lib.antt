@@ -11,7 +11,16 @@ pub mod OneDesign
 pub mod Designs
 pub mod Sections
 pub mod SectionsOf
+pub mod Found
+pub mod Distincts
+pub mod RoleBits
+pub mod Draws
+pub mod Drawing
 pub mod Ports
 pub mod Keeps
 pub mod Nets
 pub mod Parts
+pub mod AlongLemmas
+pub mod Whole
+pub mod Redrawn
+pub mod Declaring

@@ -18,7 +18,7 @@ line_of line after h =
 pub line_again : (line after : List ℕ) → list_all is_line_byte line ≡ true → first_line (with_feed line ++ after) ≡ Some (line, after)
 line_again line after h = ap first_line (append_assoc line (codes "\n") after) ∙ line_of line after h
 
-nothing_first : first_line [] ≡ None
+pub nothing_first : first_line [] ≡ None
 unfolding first_line
 nothing_first = refl
 
@@ -27,7 +27,7 @@ pub record Goes {A : Type 0} (test : List ℕ → Bool) (read : List ℕ → Opt
   pub says : IsSome (read line)
   pub rest : IsSection test read after others
 
-first_same : (text line line' after after' : List ℕ) → first_line text ≡ Some (line, after) → first_line text ≡ Some (line', after') → (line ≡ line') × (after ≡ after')
+pub first_same : (text line line' after after' : List ℕ) → first_line text ≡ Some (line, after) → first_line text ≡ Some (line', after') → (line ≡ line') × (after ≡ after')
 first_same text line line' after after' a b = found_same line line' after after' (sym a ∙ b)
 
 pub section_goes : {A : Type 0} (test : List ℕ → Bool) (read : List ℕ → Option A) (text : List ℕ) (others : List (List ℕ)) (line after : List ℕ) → IsSection test read text others → first_line text ≡ Some (line, after) → test line ≡ true

@@ -18,11 +18,11 @@ use Rattle.bb_print.proofs.Clean.{module_clean, declaration_clean, statement_cle
 use Rattle.bb_print.proofs.OneDesign.{Clocked, IsText}
 use Rattle.bb_print.proofs.Sections.{line_again}
 
-some_is : {A : Type 0} (o : Option A) (x : A) → o ≡ Some x → IsSome o
+pub some_is : {A : Type 0} (o : Option A) (x : A) → o ≡ Some x → IsSome o
 some_is o x e = ap is_some e
 
 -- how each kind of line begins
-declares_declared : (name : List ℕ) (range : Option (ℕ × ℕ)) (role : Role) → declares (declaration (name, record { range = range; role = role })) ≡ true
+pub declares_declared : (name : List ℕ) (range : Option (ℕ × ℕ)) (role : Role) → declares (declaration (name, record { range = range; role = role })) ≡ true
 unfolding declares role_of
 declares_declared name None Input = refl
 declares_declared name None Output = refl
@@ -44,7 +44,7 @@ declares_stated Buf out ins = refl
 declares_stated Zero out ins = refl
 declares_stated One out ins = refl
 
-states_stated : (op : Op) (out : Bit) (ins : List Bit) → states (statement_by op out ins) ≡ true
+pub states_stated : (op : Op) (out : Bit) (ins : List Bit) → states (statement_by op out ins) ≡ true
 unfolding states
 states_stated And out ins = refl
 states_stated Nand out ins = refl
@@ -57,42 +57,42 @@ states_stated Buf out ins = refl
 states_stated Zero out ins = refl
 states_stated One out ins = refl
 
-flop_kinds : (c : Bit) (j : ℕ) (f : Flop Bit) → (declares (flop_line (Some c) j f) ≡ false) × (states (flop_line (Some c) j f) ≡ false) × (clocks (flop_line (Some c) j f) ≡ true)
+pub flop_kinds : (c : Bit) (j : ℕ) (f : Flop Bit) → (declares (flop_line (Some c) j f) ≡ false) × (states (flop_line (Some c) j f) ≡ false) × (clocks (flop_line (Some c) j f) ≡ true)
 unfolding declares role_of states clocks
 flop_kinds c j f = (refl, refl, refl)
 
-end_kinds : (declares (codes "endmodule") ≡ false) × (states (codes "endmodule") ≡ false) × (clocks (codes "endmodule") ≡ false)
+pub end_kinds : (declares (codes "endmodule") ≡ false) × (states (codes "endmodule") ≡ false) × (clocks (codes "endmodule") ≡ false)
 unfolding declares role_of states clocks
 end_kinds = (refl, refl, refl)
 
 -- the lines of each section
-declared_line : (v : Entry) → IsEntry v → IsLineOf declares declaration_of (declaration v)
+pub declared_line : (v : Entry) → IsEntry v → IsLineOf declares declaration_of (declaration v)
 declared_line v h = record { clean = declaration_clean v h; passes = declares_declared v.0 v.1.range v.1.role; says = some_is (declaration_of (declaration v)) v (declaration_again v h) }
 
-stated_line : (g : Gate Bit) → IsGateText g → IsLineOf states statement_of (statement g)
+pub stated_line : (g : Gate Bit) → IsGateText g → IsLineOf states statement_of (statement g)
 stated_line g h = record { clean = statement_clean g h; passes = states_stated g.op g.out g.ins; says = some_is (statement_of (statement g)) g (statement_again g h) }
 
-clocked_line : (c : Bit) (j : ℕ) (f : Flop Bit) → j < number_cap → IsBitText c → IsFlopText f → IsLineOf clocks flop_of (flop_line (Some c) j f)
+pub clocked_line : (c : Bit) (j : ℕ) (f : Flop Bit) → j < number_cap → IsBitText c → IsFlopText f → IsLineOf clocks flop_of (flop_line (Some c) j f)
 clocked_line c j f small h k = record { clean = flop_clean c j f small h k; passes = (flop_kinds c j f).2; says = some_is (flop_of (flop_line (Some c) j f)) _ (flop_again c j f small h k) }
 
-all_lines : {X A : Type 0} (P : X → Type 0) (f : X → List ℕ) (test : List ℕ → Bool) (read : List ℕ → Option A) → ((x : X) → P x → IsLineOf test read (f x)) → (xs : List X) → AllByRecursion P xs → AllByRecursion (IsLineOf test read) (map f xs)
+pub all_lines : {X A : Type 0} (P : X → Type 0) (f : X → List ℕ) (test : List ℕ → Bool) (read : List ℕ → Option A) → ((x : X) → P x → IsLineOf test read (f x)) → (xs : List X) → AllByRecursion P xs → AllByRecursion (IsLineOf test read) (map f xs)
 all_lines P f test read g [] all = tt
 all_lines P f test read g (x ∷ xs) all = (g x all.0, all_lines P f test read g xs all.1)
 
-clocked_lines : (c : Bit) (j : ℕ) (fs : List (Flop Bit)) → j + length fs ≤ number_cap → IsBitText c → AllByRecursion IsFlopText fs → AllByRecursion (IsLineOf clocks flop_of) (flop_lines (Some c) j fs)
+pub clocked_lines : (c : Bit) (j : ℕ) (fs : List (Flop Bit)) → j + length fs ≤ number_cap → IsBitText c → AllByRecursion IsFlopText fs → AllByRecursion (IsLineOf clocks flop_of) (flop_lines (Some c) j fs)
 clocked_lines c j [] small h all = tt
 clocked_lines c j (f ∷ fs) small h all = (clocked_line c j f (omega arith) h all.0, clocked_lines c (j + 1) fs (omega arith) h all.1)
 
-abbrev the_end : List (List ℕ)
+abbrev pub the_end : List (List ℕ)
 the_end = codes "endmodule" ∷ []
 
-abbrev flops_and_end : Design → List (List ℕ)
+abbrev pub flops_and_end : Design → List (List ℕ)
 flops_and_end d = flop_lines d.clock 0 d.netlist.flops ++ the_end
 
-abbrev gates_and_end : Design → List (List ℕ)
+abbrev pub gates_and_end : Design → List (List ℕ)
 gates_and_end d = map statement d.netlist.gates ++ flops_and_end d
 
-flop_section : (c : Option Bit) (fs : List (Flop Bit)) → Clocked c fs → length fs ≤ number_cap → AllByRecursion IsFlopText fs → AllByRecursion (IsLineOf clocks flop_of) (flop_lines c 0 fs)
+pub flop_section : (c : Option Bit) (fs : List (Flop Bit)) → Clocked c fs → length fs ≤ number_cap → AllByRecursion IsFlopText fs → AllByRecursion (IsLineOf clocks flop_of) (flop_lines c 0 fs)
 flop_section None fs e small all = subst (λ xs. AllByRecursion (IsLineOf clocks flop_of) (flop_lines None 0 xs)) (sym e) tt
 flop_section (Some c) fs e small all = clocked_lines c 0 fs (omega arith) e.0 all
 
@@ -101,14 +101,14 @@ flops_stop_at : (test : List ℕ → Bool) → ((c : Bit) (j : ℕ) (f : Flop Bi
 flops_stop_at test k e c [] small h all = (refl, e)
 flops_stop_at test k e c (f ∷ fs) small h all = (flop_clean c 0 f (omega arith) h all.0, k c 0 f)
 
-flops_stop : (test : List ℕ → Bool) → ((c : Bit) (j : ℕ) (f : Flop Bit) → test (flop_line (Some c) j f) ≡ false) → test (codes "endmodule") ≡ false → (c : Option Bit) (fs : List (Flop Bit)) → Clocked c fs → length fs ≤ number_cap → AllByRecursion IsFlopText fs
+pub flops_stop : (test : List ℕ → Bool) → ((c : Bit) (j : ℕ) (f : Flop Bit) → test (flop_line (Some c) j f) ≡ false) → test (codes "endmodule") ≡ false → (c : Option Bit) (fs : List (Flop Bit)) → Clocked c fs → length fs ≤ number_cap → AllByRecursion IsFlopText fs
     → Stops test (flop_lines c 0 fs ++ the_end)
 flops_stop test k e None fs h small all =
     let end : Stops test the_end = (refl, e) in
     subst (λ xs. Stops test (flop_lines None 0 xs ++ the_end)) (sym h) end
 flops_stop test k e (Some c) fs h small all = flops_stop_at test k e c fs small h.0 all
 
-gates_stop : (gs : List (Gate Bit)) (others : List (List ℕ)) → AllByRecursion IsGateText gs → Stops declares others → Stops declares (map statement gs ++ others)
+pub gates_stop : (gs : List (Gate Bit)) (others : List (List ℕ)) → AllByRecursion IsGateText gs → Stops declares others → Stops declares (map statement gs ++ others)
 gates_stop [] others all h = h
 gates_stop (g ∷ gs) others all h = (statement_clean g all.0, declares_stated g.op g.out g.ins)
 
@@ -124,7 +124,7 @@ pub record Sections (text : List ℕ) : Type 0 where
   pub two : (rest : List ℕ) → rest ≡ flat_map with_feed gates → IsSection states statement_of rest flops
   pub three : (rest : List ℕ) → rest ≡ flat_map with_feed flops → IsSection clocks flop_of rest (codes "endmodule" ∷ [])
 
-pub sections_of : (d : Design) (text : List ℕ) → IsText d → text ≡ canonical_text d → Sections text
+abbrev pub sections_of : (d : Design) (text : List ℕ) → IsText d → text ≡ canonical_text d → Sections text
 sections_of d text h e = record {
   head = module_line d.module_name (port_names d.variables);
   body = flat_map with_feed (map declaration d.variables ++ gates_and_end d);

@@ -14,3 +14,9 @@ NamesNoLine NoMemory = Unit {0}
 abbrev pub IsMemory : LineFault → Type 0
 IsMemory Scan.NotCanonical = ⊥
 IsMemory Scan.NoMemory = Unit {0}
+
+-- the reader ran out of memory
+abbrev pub IsWant : CanonFault → Type 0
+IsWant (Line line) = ⊥
+IsWant Unfit = ⊥
+IsWant NoMemory = Unit {0}

@@ -4,4 +4,6 @@ pub mod Reading
 pub mod Lines
 pub mod Drafting
 pub mod Limits
+pub mod Toward
 pub mod Faults
+pub mod Along

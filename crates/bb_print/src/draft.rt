@@ -1,10 +1,13 @@
 ghost use Rattle.std.specs.Prelude.{◌≡◌, ◌≢◌, ◌<◌, ◌≤◌, ◌+◌, ◌-◌, ◌^◌, ◌++◌, ◌∷◌, [], ℕ, List, All, length, map, IfOk, OnOk, OnErr, IfErr, IfSome, IsSome, IsErrOf, Option, Some, None, slice_get, true, false, Bool, IsTrue};
-ghost use Rattle.std.specs.Option.{ForSome};
-ghost use Rattle.std.specs.List.{list_all};
-ghost use Rattle.bb_net.specs.Bits.{Bit, IsBit, IsRange, range_width, is_input, is_port, bit_at, Entry};
-ghost use Rattle.bb_net.specs.Named.{Named as NamedValue, IsNamed, IsConsistent, lookup_of};
+ghost use Rattle.std.specs.Option.{ForSome, option_map};
+ghost use Rattle.std.specs.List.{list_all, AllByRecursion};
+ghost use Rattle.bb_net.specs.Bits.{Bit, IsBit, bit_of, IsRange, range_width, is_input, is_port, bit_at, clock_place as place_of_clock, Entry};
+ghost use Rattle.bb_net.specs.Net.{Gate, Flop, renamed_gate, renamed_flop};
+ghost use Rattle.bb_net.specs.Named.{Named as NamedValue, IsNamed, IsConsistent, lookup_of, name_of_net, net_text};
 ghost use Rattle.bb_net.specs.Building.{started, with_variable, MayClock, with_net, with_gate, with_flop, clock_with};
-ghost use Rattle.bb_print.specs.Faults.{NamesNoLine};
+ghost use Rattle.bb_print.specs.Faults.{NamesNoLine, IsWant};
+ghost use Rattle.bb_print.specs.Limits.{IsBuildable};
+ghost use Rattle.bb_print.specs.Toward.{IsDrawn, IsGateOf, IsFlopOf, IsDeclared};
 ghost use Rattle.bb_print.specs.Drafting.{place_in, place_of, named_bit, canon_fault, may_follow};
 
 use crate::line::is_port_role;
@@ -131,7 +134,8 @@ impl Model for Draft {
 impl Draft {
     /// A module with this name, without variables and nets.
     pub(crate) fn new(alloc: Global, name: Name) -> Result<Draft, AllocError>
-        ensures { IfOk result (λ draft. draft ≡ started name) }
+        ensures started { IfOk result (λ draft. draft ≡ started name) }
+        ensures declared { (a : NamedValue) → IsBuildable a → name ≡ a.module_name → IfOk result (λ draft. IsDeclared a draft a.variables) }
     {
         // `bytes` ensures that the name is one.
         let _valid = name.bytes();
@@ -147,7 +151,8 @@ impl Draft {
 
     /// The place of the clock's bit, where it is one of such a variable.
     fn clock_place(&self, name: &Name, variable: Variable, clock: &Option<BitText>) -> Option<u32>
-        ensures { ForSome result (MayClock self.now variable) }
+        ensures may { ForSome result (MayClock self.now variable) }
+        ensures placed { (a : NamedValue) (v : Entry) (left : List Entry) → IsBuildable a → IsDeclared a self.now (v ∷ left) → name.now ≡ v.0 → variable ≡ v.1 → clock.now ≡ option_map (bit_of a.variables) a.clock → result ≡ place_of_clock a.clock (length self.now.variables) }
     {
         let Some(clock) = clock else {
             return None;
@@ -180,6 +185,8 @@ impl Draft {
     ) -> Result<(), CanonFault>
         requires { IsRange variable.range }
         ensures only { IfErr result NamesNoLine }
+        ensures declared { (a : NamedValue) (v : Entry) (left : List Entry) → IsBuildable a → IsDeclared a self.old (v ∷ left) → name ≡ v.0 → variable ≡ v.1 → clock.now ≡ option_map (bit_of a.variables) a.clock → OnOk result (IsDeclared a self.new left) }
+        ensures want { (a : NamedValue) (v : Entry) (left : List Entry) → IsBuildable a → IsDeclared a self.old (v ∷ left) → name ≡ v.0 → variable ≡ v.1 → clock.now ≡ option_map (bit_of a.variables) a.clock → IfErr result IsWant }
     {
         let port = is_port_role(variable.role);
         if !self.may_follow(port) {
@@ -225,6 +232,10 @@ impl Draft {
         ensures netlist { self.new.netlist ≡ self.old.netlist }
         ensures within { IfOk result (λ net. net < length self.new.names) }
         ensures only { IfErr result NamesNoLine }
+        ensures kept { (k : ℕ) → k < length self.old.names → name_of_net self.new k ≡ name_of_net self.old k }
+        ensures drawn { (a : NamedValue) (gates : List (Gate ℕ)) (flops : List (Flop ℕ)) (m : ℕ) → IsBuildable a → IsDrawn a self.old gates flops → m < length a.names → text.now ≡ net_text a m → OnOk result (IsDrawn a self.new gates flops) }
+        ensures named { (a : NamedValue) (gates : List (Gate ℕ)) (flops : List (Flop ℕ)) (m : ℕ) → IsBuildable a → IsDrawn a self.old gates flops → m < length a.names → text.now ≡ net_text a m → IfOk result (λ net. name_of_net self.new net ≡ name_of_net a m) }
+        ensures want { (a : NamedValue) (gates : List (Gate ℕ)) (flops : List (Flop ℕ)) (m : ℕ) → IsBuildable a → IsDrawn a self.old gates flops → m < length a.names → text.now ≡ net_text a m → IfErr result IsWant }
     {
         let Some(bit) = self.bit(text) else {
             return Err(CanonFault::Unfit);
@@ -241,6 +252,10 @@ impl Draft {
         ensures netlist { self.new.netlist ≡ self.old.netlist }
         ensures only { IfErr result NamesNoLine }
         ensures within { IfOk result (λ nets. All (λ net. net < length self.new.names) nets.items) }
+        ensures kept { (k : ℕ) → k < length self.old.names → name_of_net self.new k ≡ name_of_net self.old k }
+        ensures drawn { (a : NamedValue) (gates : List (Gate ℕ)) (flops : List (Flop ℕ)) (ms : List ℕ) → IsBuildable a → IsDrawn a self.old gates flops → AllByRecursion (λ m. m < length a.names) ms → texts.now ≡ map (net_text a) ms → OnOk result (IsDrawn a self.new gates flops) }
+        ensures named { (a : NamedValue) (gates : List (Gate ℕ)) (flops : List (Flop ℕ)) (ms : List ℕ) → IsBuildable a → IsDrawn a self.old gates flops → AllByRecursion (λ m. m < length a.names) ms → texts.now ≡ map (net_text a) ms → IfOk result (λ nets. map (name_of_net self.new) nets.items ≡ map (name_of_net a) ms) }
+        ensures want { (a : NamedValue) (gates : List (Gate ℕ)) (flops : List (Flop ℕ)) (ms : List ℕ) → IsBuildable a → IsDrawn a self.old gates flops → AllByRecursion (λ m. m < length a.names) ms → texts.now ≡ map (net_text a) ms → IfErr result IsWant }
     {
         let mut nets = Vec::new(alloc);
         'texts: for text in texts {
@@ -252,6 +267,8 @@ impl Draft {
     /// Adds a gate.
     pub(crate) fn state(&mut self, alloc: Global, statement: &Statement) -> Result<(), CanonFault>
         ensures only { IfErr result NamesNoLine }
+        ensures drawn { (a : NamedValue) (gates : List (Gate ℕ)) (flops : List (Flop ℕ)) (g : Gate ℕ) → IsBuildable a → IsDrawn a self.old gates flops → IsGateOf a g → length gates < 2 ^ 32 - 1 → statement.now ≡ renamed_gate (net_text a) g → OnOk result (IsDrawn a self.new (gates ++ g ∷ []) flops) }
+        ensures want { (a : NamedValue) (gates : List (Gate ℕ)) (flops : List (Flop ℕ)) (g : Gate ℕ) → IsBuildable a → IsDrawn a self.old gates flops → IsGateOf a g → length gates < 2 ^ 32 - 1 → statement.now ≡ renamed_gate (net_text a) g → IfErr result IsWant }
     {
         let out = self.net(&statement.out)?;
         let ins = self.nets(alloc, &statement.ins)?;
@@ -266,6 +283,8 @@ impl Draft {
     /// Adds a flip-flop.
     pub(crate) fn clocked(&mut self, instance: &Instance) -> Result<(), CanonFault>
         ensures only { IfErr result NamesNoLine }
+        ensures drawn { (a : NamedValue) (gates : List (Gate ℕ)) (flops : List (Flop ℕ)) (f : Flop ℕ) → IsBuildable a → IsDrawn a self.old gates flops → IsFlopOf a f → length flops < 2 ^ 32 - 1 → Some instance.now.clock ≡ option_map (bit_of a.variables) a.clock → instance.now.flop ≡ renamed_flop (net_text a) f → OnOk result (IsDrawn a self.new gates (flops ++ f ∷ [])) }
+        ensures want { (a : NamedValue) (gates : List (Gate ℕ)) (flops : List (Flop ℕ)) (f : Flop ℕ) → IsBuildable a → IsDrawn a self.old gates flops → IsFlopOf a f → length flops < 2 ^ 32 - 1 → Some instance.now.clock ≡ option_map (bit_of a.variables) a.clock → instance.now.flop ≡ renamed_flop (net_text a) f → IfErr result IsWant }
     {
         let Some(clock) = self.bit(&instance.clock) else {
             return Err(CanonFault::Unfit);
@@ -285,7 +304,9 @@ impl Draft {
 
     /// The netlist.
     pub(crate) fn finish(self) -> Result<Named, CanonFault>
+        ensures named { IfOk result (λ named. named ≡ self) }
         ensures only { IfErr result NamesNoLine }
+        ensures want { (a : NamedValue) → IsBuildable a → IsDrawn a self a.netlist.gates a.netlist.flops → IfErr result IsWant }
     {
         if self.clock.is_some() != (self.flops > 0) {
             return Err(CanonFault::Unfit);

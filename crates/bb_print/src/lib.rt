@@ -4,9 +4,9 @@
 //! - What `read_canonical` accepts is the canonical text of the netlist that it answers.
 //! - A text is the canonical text of one design at most: a netlist that is printed and read again has the same
 //!   module, ports, clock and drivers. The numbers of nets may differ.
-//! - No line of the canonical text of a netlist that can be numbered is refused.
+//! - The canonical text of a netlist within a builder's limits is read, where there is memory.
 //!
-//! Not promised: that such a text is never `Unfit`, and which refusal comes of a text that is not canonical.
+//! Not promised: which refusal comes of a text that is not canonical.
 //! `specs/Spelling.antt` says how names, bits and statements are written, `specs/Canonical.antt` what the text is.
 #![tactic(auto)]
 

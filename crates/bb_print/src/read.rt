@@ -1,9 +1,14 @@
-ghost use Rattle.std.specs.Prelude.{◌++◌, List, ℕ, Option, Some, IsSome, IsOk, IfErr, codes, ◌≡◌, ◌<◌, ◌≤◌, length, IfOk, IfSome, IsTrue};
+ghost use Rattle.std.specs.Prelude.{◌++◌, List, ℕ, Option, Some, IsSome, IsOk, IfErr, codes, ◌≡◌, ◌<◌, ◌≤◌, length, IfOk, OnOk, IfSome, IsTrue, false, [], ◌∷◌, ◌-◌, ◌^◌};
 ghost use Rattle.bb_net.specs.Named.{Named as NamedValue, design_of};
 ghost use Rattle.std.specs.List.{prefix_len, flat_map};
 ghost use Rattle.std.specs.Option.{option_map};
 ghost use Rattle.bb_print.specs.Canonical.{canonical_text, with_feed};
-ghost use Rattle.bb_print.specs.Faults.{NamesNoLine, IsMemory};
+ghost use Rattle.bb_print.specs.Faults.{NamesNoLine, IsMemory, IsWant};
+ghost use Rattle.bb_print.specs.Limits.{IsBuildable};
+ghost use Rattle.bb_print.specs.Toward.{IsDrawn, IsDeclared, IsGateOf, IsFlopOf};
+ghost use Rattle.bb_print.specs.Along.{SaysVariable, SaysGate, SaysFlop, VariablesLeft, GatesLeft, FlopsLeft, ClockLeft, clock_text};
+ghost use Rattle.bb_net.specs.Net.{Gate, Flop};
+ghost use Rattle.bb_net.specs.Bits.{Entry};
 ghost use Rattle.bb_print.specs.Reading.{begins};
 ghost use Rattle.bb_print.specs.Lines.{is_line_byte, first_line, declares, clocks, states, IsSection, module_of, declaration_of, statement_of, flop_of};
 ghost use Rattle.bb_print.specs.Limits.{IsNumbered};
@@ -48,7 +53,8 @@ fn next_line(text: &[u8]) -> Option<(&[u8], &[u8])>
 
 /// A fault of the line of this number.
 fn fault_at(fault: LineFault, line: u32) -> CanonFault
-    ensures { IsMemory fault → NamesNoLine result }
+    ensures line { IsMemory fault → NamesNoLine result }
+    ensures want { IsMemory fault → IsWant result }
 {
     match fault {
         LineFault::NotCanonical => CanonFault::Line { line },
@@ -58,7 +64,9 @@ fn fault_at(fault: LineFault, line: u32) -> CanonFault
 
 /// The clock's bit, as the first flip-flop has it.
 fn find_clock(alloc: Global, text: &[u8]) -> Result<Option<BitText>, CanonFault>
-    ensures { IfErr result NamesNoLine }
+    ensures known { IfErr result NamesNoLine }
+    ensures want { IfErr result IsWant }
+    ensures clock { (a : NamedValue) → ClockLeft (clock_text a) text.now → IfOk result (λ clock. clock ≡ clock_text a) }
 {
     let mut rest = text;
     'lines: while let Some((line, after)) = next_line(rest) {
@@ -89,7 +97,9 @@ fn read_variable(
     line: &[u8],
     number: u32,
 ) -> Result<(), CanonFault>
-    ensures { IsSome (declaration_of line.now) → IfErr result NamesNoLine }
+    ensures known { IsSome (declaration_of line.now) → IfErr result NamesNoLine }
+    ensures declared { (a : NamedValue) (v : Entry) (left : List Entry) → IsBuildable a → IsDeclared a draft.old (v ∷ left) → clock.now ≡ clock_text a → SaysVariable v line.now → OnOk result (IsDeclared a draft.new left) }
+    ensures want { (a : NamedValue) (v : Entry) (left : List Entry) → IsBuildable a → IsDeclared a draft.old (v ∷ left) → clock.now ≡ clock_text a → SaysVariable v line.now → IfErr result IsWant }
 {
     match read_declaration(alloc, line) {
         Ok((name, variable)) => draft.declare(name, variable, clock),
@@ -115,6 +125,8 @@ fn read_declarations<'a>(
 ) -> Result<(&'a [u8], u32), CanonFault>
     ensures known { (others : List (List ℕ)) → IsSection declares declaration_of text.now others → IfErr result NamesNoLine }
     ensures rest { (others : List (List ℕ)) → IsSection declares declaration_of text.now others → IfOk result (λ r. r.0.now ≡ flat_map with_feed others) }
+    ensures declared { (a : NamedValue) (others : List (List ℕ)) → IsBuildable a → clock.now ≡ clock_text a → VariablesLeft a draft.old text.now others → OnOk result (IsDeclared a draft.new []) }
+    ensures want { (a : NamedValue) (others : List (List ℕ)) → IsBuildable a → clock.now ≡ clock_text a → VariablesLeft a draft.old text.now others → IfErr result IsWant }
 {
     let mut rest = text;
     let mut number = number;
@@ -132,7 +144,9 @@ fn read_declarations<'a>(
 }
 
 fn read_gate(alloc: Global, draft: &mut Draft, line: &[u8], number: u32) -> Result<(), CanonFault>
-    ensures { IsSome (statement_of line.now) → IfErr result NamesNoLine }
+    ensures known { IsSome (statement_of line.now) → IfErr result NamesNoLine }
+    ensures drawn { (a : NamedValue) (gates : List (Gate ℕ)) (g : Gate ℕ) → IsBuildable a → IsDrawn a draft.old gates [] → IsGateOf a g → length gates < 2 ^ 32 - 1 → SaysGate a g line.now → OnOk result (IsDrawn a draft.new (gates ++ g ∷ []) []) }
+    ensures want { (a : NamedValue) (gates : List (Gate ℕ)) (g : Gate ℕ) → IsBuildable a → IsDrawn a draft.old gates [] → IsGateOf a g → length gates < 2 ^ 32 - 1 → SaysGate a g line.now → IfErr result IsWant }
 {
     match read_statement(alloc, line) {
         Ok(statement) => draft.state(alloc, &statement),
@@ -167,6 +181,8 @@ fn read_gates<'a>(
 ) -> Result<(&'a [u8], u32), CanonFault>
     ensures known { (others : List (List ℕ)) → IsSection states statement_of text.now others → IfErr result NamesNoLine }
     ensures rest { (others : List (List ℕ)) → IsSection states statement_of text.now others → IfOk result (λ r. r.0.now ≡ flat_map with_feed others) }
+    ensures drawn { (a : NamedValue) (others : List (List ℕ)) → IsBuildable a → GatesLeft a draft.old text.now others → OnOk result (IsDrawn a draft.new a.netlist.gates []) }
+    ensures want { (a : NamedValue) (others : List (List ℕ)) → IsBuildable a → GatesLeft a draft.old text.now others → IfErr result IsWant }
 {
     let mut rest = text;
     let mut number = number;
@@ -189,7 +205,9 @@ fn read_instance(
     line: &[u8],
     number: u32,
 ) -> Result<(), CanonFault>
-    ensures { IsSome (flop_of line.now) → IfErr result NamesNoLine }
+    ensures known { IsSome (flop_of line.now) → IfErr result NamesNoLine }
+    ensures drawn { (a : NamedValue) (flops : List (Flop ℕ)) (f : Flop ℕ) → IsBuildable a → IsDrawn a draft.old a.netlist.gates flops → IsFlopOf a f → length flops < 2 ^ 32 - 1 → SaysFlop a f line.now → OnOk result (IsDrawn a draft.new a.netlist.gates (flops ++ f ∷ [])) }
+    ensures want { (a : NamedValue) (flops : List (Flop ℕ)) (f : Flop ℕ) → IsBuildable a → IsDrawn a draft.old a.netlist.gates flops → IsFlopOf a f → length flops < 2 ^ 32 - 1 → SaysFlop a f line.now → IfErr result IsWant }
 {
     match read_flop(alloc, line) {
         Ok(instance) => draft.clocked(&instance),
@@ -206,6 +224,8 @@ fn read_flops<'a>(
 ) -> Result<(&'a [u8], u32), CanonFault>
     ensures known { (others : List (List ℕ)) → IsSection clocks flop_of text.now others → IfErr result NamesNoLine }
     ensures rest { (others : List (List ℕ)) → IsSection clocks flop_of text.now others → IfOk result (λ r. r.0.now ≡ flat_map with_feed others) }
+    ensures drawn { (a : NamedValue) (others : List (List ℕ)) → IsBuildable a → FlopsLeft a draft.old text.now others → OnOk result (IsDrawn a draft.new a.netlist.gates a.netlist.flops) }
+    ensures want { (a : NamedValue) (others : List (List ℕ)) → IsBuildable a → FlopsLeft a draft.old text.now others → IfErr result IsWant }
 {
     let mut rest = text;
     let mut number = number;
@@ -241,6 +261,8 @@ fn read_end(text: &[u8], number: u32) -> Result<(), CanonFault>
 fn read_head(alloc: Global, text: &[u8]) -> Result<(Name, &[u8]), CanonFault>
     ensures known { (line after : List ℕ) → first_line text.now ≡ Some (line, after) → IsSome (module_of line) → IfErr result NamesNoLine }
     ensures rest { (line after : List ℕ) → first_line text.now ≡ Some (line, after) → IfOk result (λ r. r.1.now ≡ after) }
+    ensures name { (line after : List ℕ) → first_line text.now ≡ Some (line, after) → IfOk result (λ r. module_of line ≡ Some r.0) }
+    ensures want { (line after : List ℕ) → first_line text.now ≡ Some (line, after) → IsSome (module_of line) → IfErr result IsWant }
 {
     let Some((line, after)) = next_line(text) else {
         return Err(CanonFault::Line { line: 1 });
@@ -253,7 +275,9 @@ fn read_head(alloc: Global, text: &[u8]) -> Result<(Name, &[u8]), CanonFault>
 
 /// The netlist that the lines say, where they are read one by one.
 fn read_text(alloc: Global, text: &[u8]) -> Result<Named, CanonFault>
-    ensures { (a : NamedValue) → IsNumbered a → text.now ≡ canonical_text (design_of a) → IfErr result NamesNoLine }
+    ensures known { (a : NamedValue) → IsNumbered a → text.now ≡ canonical_text (design_of a) → IfErr result NamesNoLine }
+    ensures drawn { (a : NamedValue) → IsBuildable a → IsNumbered a → text.now ≡ canonical_text (design_of a) → IfOk result (λ named. IsDrawn a named a.netlist.gates a.netlist.flops) }
+    ensures want { (a : NamedValue) → IsBuildable a → IsNumbered a → text.now ≡ canonical_text (design_of a) → IfErr result IsWant }
 {
     let clock = find_clock(alloc, text)?;
     let (name, rest) = read_head(alloc, text)?;
@@ -262,12 +286,14 @@ fn read_text(alloc: Global, text: &[u8]) -> Result<Named, CanonFault>
     let (rest, number) = read_gates(alloc, &mut draft, rest, number)?;
     let (rest, number) = read_flops(alloc, &mut draft, rest, number)?;
     read_end(rest, number)?;
-    draft.finish()
+    let named = draft.finish()?;
+    Ok(named)
 }
 
 /// Whether a netlist has no more flip-flops than are numbered.
 fn is_numbered(named: &Named) -> bool
-    ensures { IsTrue result → IsNumbered named.now }
+    ensures numbered { IsTrue result → IsNumbered named.now }
+    ensures exact { result ≡ false → 2 ^ 31 < length named.now.netlist.flops }
 {
     named.netlist().flops().len() <= 2_147_483_648
 }
@@ -276,6 +302,7 @@ fn is_numbered(named: &Named) -> bool
 pub fn read_canonical(alloc: Global, text: &[u8]) -> Result<Named, CanonFault>
     ensures accepts { IfOk result (λ named. canonical_text (design_of named) ≡ text.now) }
     ensures known { (a : NamedValue) → IsNumbered a → text.now ≡ canonical_text (design_of a) → IfErr result NamesNoLine }
+    ensures complete { (a : NamedValue) → IsBuildable a → IsNumbered a → text.now ≡ canonical_text (design_of a) → IfErr result IsWant }
     ensures same { (a : NamedValue) → IsNumbered a → canonical_text (design_of a) ≡ text.now → IfOk result (λ named. design_of named ≡ design_of a) }
 {
     let named = read_text(alloc, text)?;
