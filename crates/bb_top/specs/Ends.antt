@@ -2,7 +2,8 @@
 use Rattle.std.specs.Prelude.{◌≡◌, ◌<◌, ◌≤◌, ℕ, List, length, codes, Option, Some, None}
 use Rattle.bb_edge.specs.Told.{Told, Held, Shows, SameBut, KeepsOrStarts, AppendsFront}
 use Rattle.bb_top.specs.Words.{Command, command_of, output_name}
-use Rattle.bb_top.specs.Reads.{IsMade}
+use Rattle.bb_net.specs.Named.{Named}
+use Rattle.bb_top.specs.Reads.{IsReadable, IsMade}
 
 -- the most bytes of the input
 abbrev pub file_limit : ℕ
@@ -26,10 +27,10 @@ usage_line = codes "usage: bilbo compile IN PREFIX\n"
 abbrev pub done_line : List ℕ
 done_line = codes "done\n"
 
--- the text has this refusal: it is too long, or it isn't
+-- the text has this refusal: it is too long, or else the text of no netlist that is read
 abbrev pub IsRefused : Refusal → List ℕ → Type 0
 IsRefused TooLong text = file_limit < length text
-IsRefused NotRead text = length text ≤ file_limit
+IsRefused NotRead text = (length text ≤ file_limit) × ((a : Named) → IsReadable a text → ⊥)
 
 -- the call is done: the output file is made of the input's text, and no other file changed
 pub record IsDone (words : List (List ℕ)) (old new : List ℕ → Told) : Type 0 where

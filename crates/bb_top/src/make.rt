@@ -78,8 +78,10 @@ fn is_few(named: &NamedNetlist) -> bool
 }
 
 /// The netlist that is read from a text.
+#[tactic(auto, using(crate::proofs::FewLemmas::buildable, crate::proofs::FewLemmas::numbered))]
 fn read_netlist(alloc: Global, text: &[u8]) -> Result<NamedNetlist, MakeFault>
-    ensures { IfOk result (λ named. IsReadable named text.now) }
+    ensures read { IfOk result (λ named. IsReadable named text.now) }
+    ensures refused { IsErrOf result MakeFault.NotRead → (a : Named) → IsReadable a text.now → ⊥ }
 {
     let named = match read_canonical(alloc, text) {
         Ok(named) => named,
@@ -96,7 +98,8 @@ fn read_netlist(alloc: Global, text: &[u8]) -> Result<NamedNetlist, MakeFault>
 
 /// What is made of a text.
 pub(crate) fn make(alloc: Global, text: &[u8]) -> Result<Vec<u8>, MakeFault>
-    ensures { IfOk result (λ made. IsMade text.now made.items) }
+    ensures made { IfOk result (λ made. IsMade text.now made.items) }
+    ensures refused { IsErrOf result MakeFault.NotRead → (a : Named) → IsReadable a text.now → ⊥ }
 {
     let named = read_netlist(alloc, text)?;
     let woven = weave_thin(alloc, &named)?;

@@ -1,9 +1,10 @@
 ghost use Rattle.std.specs.Prelude.{◌≡◌, ◌≢◌, ◌⊎◌, ◌≤◌, map, ℕ, List, Some, None, string_bytes, IfOk, IsErrOf, length};
 ghost use Rattle.std.specs.Option.{ForSome};
+ghost use Rattle.bb_net.specs.Named.{Named};
 ghost use Rattle.bb_edge.specs.Causes.{Rose};
 ghost use Rattle.bb_edge.specs.Told.{Held, AppendsAll};
 ghost use Rattle.bb_top.specs.Words.{command_of, output_name, Command as CommandValue};
-ghost use Rattle.bb_top.specs.Reads.{IsMade};
+ghost use Rattle.bb_top.specs.Reads.{IsReadable, IsMade};
 ghost use Rattle.bb_top.specs.Ends.{Refusal, TooLong, NotRead, IsRefused, IsDone, IsRefusal, IsUnwritten, IsUnsaid, file_limit, refusal_line, usage_line, done_line};
 
 use crate::make::{MakeFault, make};
@@ -73,9 +74,12 @@ pub fn bilbo<S: Store, K: Sink>(alloc: Global, words: &[String], store: &mut S, 
 
     // Words that mean no command are answered so, unless the sink fails.
     ensures always_usage { command_of (map (λ w. string_bytes w) words.now) ≡ None → (result ≡ 2) ⊎ (result ≡ 4) }
-    // A text that is too long isn't called done.
-    ensures always_too_long { (c : CommandValue) (text : List ℕ) → command_of (map (λ w. string_bytes w) words.now) ≡ Some c → S.holds store.old c.input ≡ Held text
-        → IsRefused TooLong text → (result ≢ 0) × (result ≢ 2) }
+    // A text that is read is neither refused nor called a fault of the words.
+    ensures complete { (c : CommandValue) (text : List ℕ) (a : Named) → command_of (map (λ w. string_bytes w) words.now) ≡ Some c → S.holds store.old c.input ≡ Held text
+        → length text ≤ file_limit → IsReadable a text → (result ≢ 1) × (result ≢ 2) }
+    // A text that has a refusal isn't called done.
+    ensures always_refused { (c : CommandValue) (text : List ℕ) (refusal : Refusal) → command_of (map (λ w. string_bytes w) words.now) ≡ Some c → S.holds store.old c.input ≡ Held text
+        → IsRefused refusal text → (result ≢ 0) × (result ≢ 2) }
 {
     let Some(Command { input, prefix }) = command_in(words) else {
         return match out.put(b"usage: bilbo compile IN PREFIX\n") {
