@@ -1,0 +1,12 @@
+pub mod Spans
+pub mod Trees
+pub mod Grammar
+pub mod Meaning
+pub mod Sound
+pub mod Drafts
+pub mod Passes
+pub mod Moves
+pub mod ExpressionMoves
+pub mod StatementMoves
+pub mod Machine
+pub mod Standing
