@@ -11,6 +11,7 @@ use Rattle.std.specs.Str.{all_ascii_digits}
 use Rattle.bb_net.specs.Name.{IsName, IsNameByte}
 use Rattle.bb_net.specs.Bits.{Bit}
 use Rattle.bb_print.specs.Spelling.{starts_word, is_word_byte, is_simple, is_keyword, is_plain, spelled_name, spelled_index, spelled_bit}
+pub use Rattle.bb_print.specs.Forms.{IsIndex, IsBitText}
 use Rattle.bb_print.specs.Reading.{begins, after_mark, is_name_byte, is_name, plain_at, escaped_at, name_at, value_after, number_cap, is_number, number_at, index_at, bit_at}
 
 -- all items pass a test
@@ -92,14 +93,14 @@ name_again name rest h e = go (is_plain name) refl
     go false p = rw p (rw (append_assoc name (codes " ") rest) (escaped_again name rest h p))
 
 -- decimal digits, in the library's words
-abbrev read_on : ℕ → List ℕ → ℕ
+abbrev pub read_on : ℕ → List ℕ → ℕ
 read_on n [] = n
 read_on n (c ∷ cs) = read_on (10 * n + (c - 48)) cs
 
-own : IsNumeralModel (λ ds. all_ascii_digits ds ≡ true) (read_on 0)
+pub own : IsNumeralModel (λ ds. all_ascii_digits ds ≡ true) (read_on 0)
 own = numerals_by_fold _ (search rules) read_on (search rules)
 
-capped : (n : ℕ) (ds : List ℕ) → value_after (min n number_cap) ds ≡ min (read_on n ds) number_cap
+pub capped : (n : ℕ) (ds : List ℕ) → value_after (min n number_cap) ds ≡ min (read_on n ds) number_cap
 capped n [] = refl
 capped n (c ∷ cs) =
     let step : min (10 * min n number_cap + (c - 48)) number_cap ≡ min (10 * n + (c - 48)) number_cap = omega arith in
@@ -114,10 +115,13 @@ digits_pass (c ∷ cs) h =
 pub decimal_passes : (n : ℕ) → n < 2 ^ 64 → Pass is_ascii_digit (decimal n)
 decimal_passes n h = digits_pass (decimal n) (digits_decimal own n h)
 
+pub read_decimal : (n : ℕ) → n < 2 ^ 64 → read_on 0 (decimal n) ≡ n
+read_decimal n h = digits_value-decimal own n h
+
 decimal_value : (n : ℕ) → n < number_cap → value_after 0 (decimal n) ≡ n
 decimal_value n h =
     let small : n < 2 ^ 64 = omega arith in
-    let read : read_on 0 (decimal n) ≡ n = digits_value-decimal own n small in
+    let read : read_on 0 (decimal n) ≡ n = read_decimal n small in
     capped 0 (decimal n) ∙ ap (λ m. min m number_cap) read ∙ (let e : min n number_cap ≡ n = omega arith in e)
 
 is_number_long : (ds : List ℕ) → 0 < length ds → 48 < slice_index ds 0 → is_number ds ≡ true
@@ -142,16 +146,6 @@ pub number_again : (n : ℕ) (rest : List ℕ) → n < number_cap → prefix_len
 number_again n rest small e =
     let fits : n < 2 ^ 64 = omega arith in
     number_found (decimal n) rest n (decimal_passes n fits) e (decimal_number n fits) (decimal_value n small) small
-
--- an index is below the cap
-abbrev pub IsIndex : Option ℕ → Type 0
-IsIndex None = Unit {0}
-IsIndex (Some i) = i < number_cap
-
--- a bit that is written and read
-pub record IsBitText (b : Bit) : Type 0 where
-  pub name : IsName b.name
-  pub index : IsIndex b.index
 
 -- no byte of a name or of an index begins what follows
 pub record Ends (rest : List ℕ) : Type 0 where

@@ -1,17 +1,16 @@
 -- A reader that goes along lines.
-use Rattle.std.proofs.Common.{◌≡◌, ℕ, ◌+◌, ◌<◌, ◌≤◌, ◌-◌, ◌^◌, List, [], ◌∷◌, ◌++◌, length, Option, Some, None, Bool, true, false, refl, sym, ap, ◌∙◌, arith, append_assoc, append-nil, subst, length-append, All, map}
-use Rattle.std.proofs.lemmas.List.Elements.{recursion_from_All, All-from_recursion}
+use Rattle.std.proofs.Common.{◌≡◌, ℕ, ◌<◌, ◌-◌, ◌^◌, List, [], ◌∷◌, ◌++◌, length, Some, None, Bool, true, false, refl, sym, ap, ◌∙◌, arith, append_assoc, append-nil, subst, length-append, map}
+use Rattle.std.proofs.lemmas.List.Elements.{recursion_from_All}
 use Rattle.std.specs.List.{list_all, flat_map, AllByRecursion}
 use Rattle.bb_net.specs.Net.{Gate, Flop, driven, reads, HasArity}
 use Rattle.bb_net.specs.Bits.{Entry}
-use Rattle.bb_net.specs.Named.{Named, IsNamed, IsConsistent}
-use Rattle.bb_net.specs.Building.{net_limit}
+use Rattle.bb_net.specs.Named.{Named, IsNamed}
 use Rattle.bb_net.proofs.Lists.{all_front, all_back, all_map, length_map}
 use Rattle.bb_print.specs.Canonical.{with_feed}
 use Rattle.bb_print.specs.Lines.{is_line_byte, first_line, declares, states, clocks, Stops}
 use Rattle.bb_print.specs.Limits.{IsBuildable}
 use Rattle.bb_print.specs.Toward.{IsDrawn, IsDeclared, IsGateOf, IsFlopOf}
-use Rattle.bb_print.specs.Along.{Says, SayAll, Along, SaysVariable, SaysGate, SaysFlop, VariablesLeft, GatesLeft, FlopsLeft}
+use Rattle.bb_print.specs.Along.{SayAll, Along, SaysVariable, SaysGate, SaysFlop, VariablesLeft, GatesLeft, FlopsLeft}
 use Rattle.bb_print.proofs.Sections.{line_again, first_same, nothing_first}
 
 module _ {X : Type 0} (says : X → List ℕ → Type 0) (test : List ℕ → Bool) (clean : (x : X) (l : List ℕ) → says x l → list_all is_line_byte l ≡ true) (passes : (x : X) (l : List ℕ) → says x l → test l ≡ true) where

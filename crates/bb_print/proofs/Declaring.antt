@@ -1,5 +1,5 @@
 -- The next variable of a netlist, declared.
-use Rattle.std.proofs.Common.{◌≡◌, ◌≢◌, ℕ, ◌+◌, ◌≤◌, ◌<◌, ◌==◌, List, [], ◌∷◌, ◌++◌, length, zero, suc, ◌&&◌, append_assoc, length-append, Bool, true, false, not, nat_eq, nat_lt, Option, Some, None, slice_get, refl, sym, ap, ◌∙◌, arith, subst, if◌then◌else◌}
+use Rattle.std.proofs.Common.{◌≡◌, ℕ, ◌+◌, ◌≤◌, ◌<◌, List, [], ◌∷◌, ◌++◌, length, zero, suc, ◌&&◌, append_assoc, length-append, Bool, true, false, not, nat_eq, nat_lt, Option, Some, None, slice_get, refl, sym, ap, ◌∙◌, arith, subst, if◌then◌else◌}
 use Rattle.std.specs.Option.{option_map, is_some, ForSome}
 use Rattle.std.specs.Str.{bytes_eq}
 use Rattle.std.proofs.lemmas.Slice.Eq.{bytes_eq-Decides}
@@ -15,7 +15,6 @@ use Rattle.bb_net.specs.declared.builder.NetFault.TheVariants.{Redeclared, TwoDr
 use Rattle.bb_net.specs.Building.{with_variable, clock_with, port_bits, MayClock, IsTooMany, IsVariableFault, net_limit}
 use Rattle.bb_net.proofs.VariableLemmas.{variable_fits, all_at}
 use Rattle.bb_net.specs.Bits.{Entry, IsEntry, Bit, IsBit, bit_of, bit_in, clock_place, is_input, is_port, role_bits}
-use Rattle.bb_net.specs.Bits as bits
 use Rattle.bb_net.specs.Named.{Named, IsClock, lookup_of}
 use Rattle.bb_print.specs.Drafting.{place_of, may_follow, canon_fault}
 use Rattle.bb_print.specs.Faults.{IsWant}
@@ -24,7 +23,7 @@ use Rattle.bb_print.proofs.Distincts.{distinct_few}
 use Rattle.bb_print.proofs.RoleBits.{role_distinct, front_within, port_bits_are, clock_are}
 use Rattle.bb_print.specs.Limits.{IsBuildable}
 use Rattle.bb_print.specs.Toward.{IsDeclared, clock_among}
-use Rattle.bb_print.proofs.BitAgain.{Apart, same_number}
+use Rattle.bb_print.proofs.BitAgain.{same_number}
 use Rattle.bb_print.proofs.Found.{place_again}
 
 next_at : (xs : List Entry) (v : Entry) (left : List Entry) → slice_get (xs ++ v ∷ left) (length xs) ≡ Some v

@@ -1,17 +1,12 @@
 -- Bits of which no two are one.
-use Rattle.std.proofs.Common.{◌≡◌, ◌≢◌, ℕ, ◌+◌, ◌-◌, ◌≤◌, ◌<◌, ◌==◌, zero, suc, List, [], ◌∷◌, ◌++◌, length, map, Option, Some, None, Bool, true, false, not, ◌&&◌, ◌||◌, nat_eq, All, AllPairs, Contains, slice_get, get_or, count_by, cond, refl, sym, ap, ◌∙◌, arith, subst, if◌then◌else◌, length-append}
+use Rattle.std.proofs.Common.{◌≡◌, ℕ, ◌+◌, ◌≤◌, ◌<◌, ◌==◌, zero, suc, List, [], ◌∷◌, ◌++◌, length, map, Bool, true, false, ◌||◌, nat_eq, Contains, get_or, count_by, cond, refl, sym, ap, ◌∙◌, arith}
 use Rattle.std.specs.List.{AllByRecursion, list_any, IsDistinct}
 use Rattle.std.specs.Cmp.{IsEquivalence}
 use Rattle.std.proofs.lemmas.Map.Made.{length-le_from_is_member}
-use Rattle.std.specs.Option.{ForSome}
-use Rattle.std.proofs.lemmas.List.Elements.{All-push, All-contains, Contains-get_or, All-from_recursion, recursion_from_All}
 use Rattle.std.proofs.lemmas.Bool.Decides.{nat_tests}
-use Rattle.std.proofs.lemmas.Option.{get_or_from_slice_get, slice_get_within}
 use Rattle.bb_net.specs.declared.variable.BitName.{BitName}
-use Rattle.bb_net.specs.Net.{Gate, Flop, driven, times}
-use Rattle.bb_net.specs.Bits.{Entry, Bit, IsBit, bit_at, is_input, role_bits}
-use Rattle.bb_net.specs.Named.{Named, IsNamed, IsConsistent, name_of_net, net_text}
-use Rattle.bb_net.specs.Building.{bit_eq, with_net}
+use Rattle.bb_net.specs.Net.{times}
+use Rattle.bb_net.specs.Building.{bit_eq}
 use Rattle.bb_print.specs.Toward.{Distinct}
 use Rattle.bb_net.proofs.BitLemmas.{same_bits, bit_eq_itself}
 use Rattle.bb_net.proofs.TimesLemmas.{times_head}

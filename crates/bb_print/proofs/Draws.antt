@@ -1,18 +1,17 @@
 -- Each step of a draft on the way to a netlist.
-use Rattle.std.proofs.Common.{◌≡◌, ◌≢◌, ℕ, ◌+◌, ◌-◌, ◌≤◌, ◌<◌, ◌==◌, zero, suc, List, [], ◌∷◌, ◌++◌, length, map, Option, Some, None, Bool, true, false, nat_lt, All, AllPairs, Contains, slice_get, get_or, refl, sym, ap, ◌∙◌, arith, subst, if◌then◌else◌, append_assoc, length-append, IsSome, ◌↔◌}
+use Rattle.std.proofs.Common.{◌≡◌, ◌≢◌, ℕ, ◌≤◌, ◌<◌, zero, suc, List, [], ◌∷◌, ◌++◌, length, map, Option, Some, None, Bool, true, false, nat_lt, All, AllPairs, Contains, get_or, refl, sym, ap, ◌∙◌, arith, subst, if◌then◌else◌, IsSome, ◌↔◌}
 use Rattle.std.specs.List.{AllByRecursion, list_any, flat_map}
 use Rattle.std.specs.Option.{ForSome}
 use Rattle.std.proofs.lemmas.List.Elements.{recursion_from_All, All-from_recursion, Contains-get_or}
 use Rattle.std.proofs.lemmas.List.{append-nil}
-use Rattle.std.proofs.lemmas.Option.{get_or_from_slice_get, slice_get_within}
+use Rattle.std.proofs.lemmas.Option.{slice_get_within}
 use Rattle.std.proofs.lemmas.Bool.Decides.{nat_tests}
-use Rattle.bb_net.specs.declared.net.Op.{Op}
 use Rattle.bb_net.specs.declared.variable.BitName.{BitName}
 use Rattle.bb_net.specs.Net.{Gate, Flop, driven, reads, times, renamed_gate, renamed_flop, IsArity}
-use Rattle.bb_net.specs.Bits.{Entry, Bit, IsBit, is_input, is_port, role_bits}
+use Rattle.bb_net.specs.Bits.{Entry, IsBit, is_input, is_port, role_bits}
 use Rattle.bb_net.specs.Named.{Named, IsNamed, IsConsistent, name_of_net, IsClock}
 use Rattle.bb_net.specs.Building.{bit_eq, with_net, with_gate, with_flop, net_limit}
-use Rattle.bb_net.proofs.BitLemmas.{same_bits, bit_eq_itself}
+use Rattle.bb_net.proofs.BitLemmas.{same_bits}
 use Rattle.bb_net.proofs.Lists.{all_front, all_back, all_join, all_map, map_join, map_twice, length_map, same_map_at}
 use Rattle.bb_net.proofs.ConsistentLemmas.{net_fits, gate_fits, flop_fits}
 use Rattle.bb_print.specs.Limits.{IsBuildable}

@@ -1,6 +1,6 @@
 -- A bit is found by its text.
-use Rattle.std.proofs.Common.{◌≡◌, ◌≢◌, ℕ, ◌+◌, ◌-◌, ◌≤◌, ◌<◌, zero, suc, List, [], ◌∷◌, ◌++◌, length, map, Option, Some, None, Bool, true, false, not, ◌&&◌, nat_le, nat_lt, position, slice_get, get_or, refl, sym, ap, ◌∙◌, arith, subst, cond, if◌then◌else◌}
-use Rattle.std.specs.List.{position_or_len, prefix_len}
+use Rattle.std.proofs.Common.{◌≡◌, ℕ, ◌+◌, ◌-◌, ◌≤◌, ◌<◌, zero, suc, List, [], ◌∷◌, length, map, Option, Some, None, Bool, true, false, not, nat_le, nat_lt, position, slice_get, refl, sym, ap, ◌∙◌, arith, cond, if◌then◌else◌}
+use Rattle.std.specs.List.{position_or_len}
 use Rattle.std.specs.Option.{option_map}
 use Rattle.std.specs.Str.{bytes_eq}
 use Rattle.std.proofs.lemmas.Option.{slice_get_within}
@@ -10,7 +10,6 @@ use Rattle.bb_net.specs.declared.variable.BitName.{BitName}
 use Rattle.bb_net.specs.Bits.{Entry, Bit, IsBit, bit_of, bit_in, bit_at, range_width}
 use Rattle.bb_net.specs.Bits as bits
 use Rattle.bb_net.specs.Named.{Named, lookup_of}
-use Rattle.bb_net.proofs.Lists.{length_map}
 use Rattle.bb_print.specs.Reading.{◌>>=◌}
 use Rattle.bb_print.specs.Drafting.{place_in, place_of, named_bit}
 use Rattle.bb_print.proofs.Drafts.{lookup_entry}

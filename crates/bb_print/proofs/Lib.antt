@@ -24,3 +24,14 @@ pub mod AlongLemmas
 pub mod Whole
 pub mod Redrawn
 pub mod Declaring
+pub mod MoreNames
+pub mod Pieces
+pub mod Standing
+pub mod LineKinds
+pub mod Spelt
+pub mod SpeltLines
+pub mod Derived
+pub mod Back
+pub mod BackLines
+pub mod Leading
+pub mod FirstBad

@@ -1,5 +1,5 @@
 -- What is spelled is read: whole lines.
-use Rattle.std.proofs.Common.{◌≡◌, ℕ, ◌≤◌, ◌<◌, zero, suc, List, [], ◌∷◌, ◌++◌, length, drop, map, codes, decimal, Option, Some, None, true, false, refl, ap, ◌∙◌, arith, append_assoc, length-append}
+use Rattle.std.proofs.Common.{◌≡◌, ℕ, ◌≤◌, ◌<◌, zero, suc, List, [], ◌∷◌, ◌++◌, length, drop, map, codes, decimal, Option, Some, None, true, false, refl, sym, ap, ◌∙◌, arith, append_assoc, length-append}
 use Rattle.std.specs.List.{prefix_len, AllByRecursion, flat_map}
 use Rattle.std.specs.Str.{bytes_eq}
 use Rattle.bb_net.specs.declared.net.Op.{Op}
@@ -12,6 +12,8 @@ use Rattle.bb_net.specs.Bits.{Entry, Bit, IsEntry, IsRange}
 use Rattle.bb_print.specs.Spelling.{is_word_byte, spelled_name, spelled_bit, further, joined, module_line, role_word, spelled_range, declaration, constant_line, primitive_line, statement_by, statement, pins, flop_line}
 use Rattle.bb_print.specs.Reading.{◌>>=◌, begins, after_mark, word_of, after_word, name_at, number_cap, number_at, bit_at, range_at}
 use Rattle.bb_print.specs.Lines.{module_of, role_of, declaration_of, op_of, bits_at, primitive_of, constant_op, constant_of, statement_of, Instance, pins_of, flop_of, with_front}
+pub use Rattle.bb_print.specs.Forms.{IsFlopText}
+use Rattle.bb_print.specs.Forms.{MayRead}
 use Rattle.bb_print.proofs.Again.{Pass, front_join, back_join, name_again, number_again, bit_again, IsBitText, Ends, plain_start}
 use Rattle.bb_print.proofs.MoreBits.{bits_end, bits_one}
 
@@ -129,22 +131,35 @@ one_again out h =
     let rest : List ℕ = codes " = 1'b" ++ (codes "1" ++ codes ";") in
     constant_found (constant_line out (codes "1")) (codes " " ++ (spelled_bit out ++ rest)) (spelled_bit out ++ rest) rest (codes "1;") One out refl refl refl (bit_again out rest h (record { word = refl; bracket = refl })) refl one_op
 
-no_ins : (op : Op) (out : Bit) (ins : List Bit) (line : List ℕ) → length ins ≡ 0 → statement_of line ≡ Some (record { op = op; out = out; ins = [] }) → statement_of line ≡ Some (record { op = op; out = out; ins = ins })
-no_ins op out [] line h e = e
-no_ins op out (i ∷ is) line h e = absurd (omega arith)
+no_items : (ins : List Bit) → length ins ≡ 0 → ins ≡ []
+no_items [] h = refl
+no_items (i ∷ is) h = absurd (omega arith)
 
-by_again : (op : Op) (out : Bit) (ins : List Bit) → IsArity op (length ins) → IsBitText out → AllByRecursion IsBitText ins → statement_of (statement_by op out ins) ≡ Some (record { op = op; out = out; ins = ins })
+may_read : (op : Op) (ins : List Bit) → IsArity op (length ins) → MayRead op ins
+may_read And ins n = tt
+may_read Nand ins n = tt
+may_read Or ins n = tt
+may_read Nor ins n = tt
+may_read Xor ins n = tt
+may_read Xnor ins n = tt
+may_read Not ins n = tt
+may_read Buf ins n = tt
+may_read Zero ins n = no_items ins n
+may_read One ins n = no_items ins n
+
+-- a gate of any number of bits
+pub form_again : (op : Op) (out : Bit) (ins : List Bit) → MayRead op ins → IsBitText out → AllByRecursion IsBitText ins → statement_of (statement_by op out ins) ≡ Some (record { op = op; out = out; ins = ins })
 unfolding op_of
-by_again And out ins n h k = statement_found (primitive_line And out ins) _ And _ refl refl refl (primitive_again And out ins h k)
-by_again Nand out ins n h k = statement_found (primitive_line Nand out ins) _ Nand _ refl refl refl (primitive_again Nand out ins h k)
-by_again Or out ins n h k = statement_found (primitive_line Or out ins) _ Or _ refl refl refl (primitive_again Or out ins h k)
-by_again Nor out ins n h k = statement_found (primitive_line Nor out ins) _ Nor _ refl refl refl (primitive_again Nor out ins h k)
-by_again Xor out ins n h k = statement_found (primitive_line Xor out ins) _ Xor _ refl refl refl (primitive_again Xor out ins h k)
-by_again Xnor out ins n h k = statement_found (primitive_line Xnor out ins) _ Xnor _ refl refl refl (primitive_again Xnor out ins h k)
-by_again Not out ins n h k = statement_found (primitive_line Not out ins) _ Not _ refl refl refl (primitive_again Not out ins h k)
-by_again Buf out ins n h k = statement_found (primitive_line Buf out ins) _ Buf _ refl refl refl (primitive_again Buf out ins h k)
-by_again Zero out ins n h k = no_ins Zero out ins _ n (zero_again out h)
-by_again One out ins n h k = no_ins One out ins _ n (one_again out h)
+form_again And out ins n h k = statement_found (primitive_line And out ins) _ And _ refl refl refl (primitive_again And out ins h k)
+form_again Nand out ins n h k = statement_found (primitive_line Nand out ins) _ Nand _ refl refl refl (primitive_again Nand out ins h k)
+form_again Or out ins n h k = statement_found (primitive_line Or out ins) _ Or _ refl refl refl (primitive_again Or out ins h k)
+form_again Nor out ins n h k = statement_found (primitive_line Nor out ins) _ Nor _ refl refl refl (primitive_again Nor out ins h k)
+form_again Xor out ins n h k = statement_found (primitive_line Xor out ins) _ Xor _ refl refl refl (primitive_again Xor out ins h k)
+form_again Xnor out ins n h k = statement_found (primitive_line Xnor out ins) _ Xnor _ refl refl refl (primitive_again Xnor out ins h k)
+form_again Not out ins n h k = statement_found (primitive_line Not out ins) _ Not _ refl refl refl (primitive_again Not out ins h k)
+form_again Buf out ins n h k = statement_found (primitive_line Buf out ins) _ Buf _ refl refl refl (primitive_again Buf out ins h k)
+form_again Zero out ins n h k = zero_again out h ∙ ap (λ z. Some (record { op = Zero; out = out; ins = z })) (sym n)
+form_again One out ins n h k = one_again out h ∙ ap (λ z. Some (record { op = One; out = out; ins = z })) (sym n)
 
 -- a gate whose bits are written and read
 pub record IsGateText (g : Gate Bit) : Type 0 where
@@ -153,7 +168,7 @@ pub record IsGateText (g : Gate Bit) : Type 0 where
   pub ins : AllByRecursion IsBitText g.ins
 
 pub statement_again : (g : Gate Bit) → IsGateText g → statement_of (statement g) ≡ Some g
-statement_again g h = by_again g.op g.out g.ins h.arity h.out h.ins
+statement_again g h = form_again g.op g.out g.ins (may_read g.op g.ins h.arity) h.out h.ins
 
 -- flip-flops
 pins_found : (bytes one two three four five : List ℕ) (number : ℕ) (clock q d : Bit) → after_mark (codes " (") bytes ≡ Some one → bit_at one ≡ Some (clock, two) → after_mark (codes ", ") two ≡ Some three → bit_at three ≡ Some (q, four)
@@ -161,7 +176,7 @@ pins_found : (bytes one two three four five : List ℕ) (number : ℕ) (clock q 
 unfolding pins_of
 pins_found bytes one two three four five number clock q d a b c e f g = rw (a, b, c, e, f, g) refl
 
-pins_again : (number : ℕ) (clock : Bit) (f : Flop Bit) → IsBitText clock → IsBitText f.q → IsBitText f.d → pins_of number (pins (Some clock) f) ≡ Some (record { number = number; clock = clock; flop = f })
+pub pins_again : (number : ℕ) (clock : Bit) (f : Flop Bit) → IsBitText clock → IsBitText f.q → IsBitText f.d → pins_of number (pins (Some clock) f) ≡ Some (record { number = number; clock = clock; flop = f })
 pins_again number clock f h q d =
     let five : List ℕ = spelled_bit f.d ++ codes ");" in
     let four : List ℕ = codes ", " ++ five in
@@ -174,11 +189,6 @@ pins_again number clock f h q d =
 flop_found : (line number_from rest : List ℕ) (number : ℕ) (i : Instance) → after_mark (codes "dff bt_f") line ≡ Some number_from → number_at number_from ≡ Some (number, rest) → pins_of number rest ≡ Some i → flop_of line ≡ Some i
 unfolding flop_of
 flop_found line number_from rest number i a b c = rw (a, b) c
-
--- a flip-flop whose bits are written and read
-pub record IsFlopText (f : Flop Bit) : Type 0 where
-  pub q : IsBitText f.q
-  pub d : IsBitText f.d
 
 pub flop_again : (clock : Bit) (number : ℕ) (f : Flop Bit) → number < number_cap → IsBitText clock → IsFlopText f → flop_of (flop_line (Some clock) number f) ≡ Some (record { number = number; clock = clock; flop = f })
 flop_again clock number f small h k =

@@ -13,7 +13,7 @@ with_two xs ys None = refl
 with_two xs ys (Some r) = ap (λ z. Some (z, r.1)) (sym (append_assoc xs ys r.0))
 
 -- bytes that begin with a comma and a space are two at least
-begins_long : (bytes : List ℕ) → begins (codes ", ") bytes ≡ true → 2 ≤ length bytes
+pub begins_long : (bytes : List ℕ) → begins (codes ", ") bytes ≡ true → 2 ≤ length bytes
 begins_long [] h = cc
 begins_long (x ∷ []) h = grind arith
 begins_long (x ∷ y ∷ ys) h = omega arith
@@ -28,7 +28,7 @@ pub bits_one : (most : ℕ) (bytes : List ℕ) → begins (codes ", ") bytes ≡
 unfolding bits_at
 bits_one most bytes h = rw h refl
 
-bind_same : {A B : Type 0} (r : Option A) (f g : A → Option B) → ((x : A) → r ≡ Some x → f x ≡ g x) → (r >>= f) ≡ (r >>= g)
+pub bind_same : {A B : Type 0} (r : Option A) (f g : A → Option B) → ((x : A) → r ≡ Some x → f x ≡ g x) → (r >>= f) ≡ (r >>= g)
 bind_same None f g h = refl
 bind_same (Some x) f g h = h x refl
 

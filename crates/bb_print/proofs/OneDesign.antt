@@ -34,11 +34,11 @@ states_nothing_declared Buf out ins = refl
 states_nothing_declared Zero out ins = refl
 states_nothing_declared One out ins = refl
 
-flop_undeclared : (c : Bit) (j : ℕ) (f : Flop Bit) → declaration_of (flop_line (Some c) j f) ≡ None
+pub flop_undeclared : (c : Bit) (j : ℕ) (f : Flop Bit) → declaration_of (flop_line (Some c) j f) ≡ None
 unfolding declaration_of role_of
 flop_undeclared c j f = refl
 
-others_undeclared : (name : List ℕ) (ports : List (List ℕ)) → (declaration_of (module_line name ports) ≡ None) × (declaration_of (codes "endmodule") ≡ None) × (declaration_of [] ≡ None)
+pub others_undeclared : (name : List ℕ) (ports : List (List ℕ)) → (declaration_of (module_line name ports) ≡ None) × (declaration_of (codes "endmodule") ≡ None) × (declaration_of [] ≡ None)
 unfolding declaration_of role_of
 others_undeclared name ports = (refl, refl, refl)
 
@@ -51,11 +51,11 @@ declared_unstated name (Some r) Input = refl
 declared_unstated name (Some r) Output = refl
 declared_unstated name (Some r) Wire = refl
 
-flop_unstated : (c : Bit) (j : ℕ) (f : Flop Bit) → statement_of (flop_line (Some c) j f) ≡ None
+pub flop_unstated : (c : Bit) (j : ℕ) (f : Flop Bit) → statement_of (flop_line (Some c) j f) ≡ None
 unfolding statement_of op_of
 flop_unstated c j f = refl
 
-others_unstated : (name : List ℕ) (ports : List (List ℕ)) → (statement_of (module_line name ports) ≡ None) × (statement_of (codes "endmodule") ≡ None) × (statement_of [] ≡ None)
+pub others_unstated : (name : List ℕ) (ports : List (List ℕ)) → (statement_of (module_line name ports) ≡ None) × (statement_of (codes "endmodule") ≡ None) × (statement_of [] ≡ None)
 unfolding statement_of op_of
 others_unstated name ports = (refl, refl, refl)
 

@@ -1,12 +1,12 @@
 -- What is wholly drawn is the netlist again.
-use Rattle.std.proofs.Common.{◌≡◌, ℕ, ◌+◌, ◌<◌, ◌≤◌, ◌^◌, List, [], ◌∷◌, ◌++◌, length, map, Option, Some, None, Bool, true, false, refl, sym, ap, ◌∙◌, arith, subst, nat_lt, if◌then◌else◌}
+use Rattle.std.proofs.Common.{◌≡◌, ℕ, ◌≤◌, List, length, map, Option, Some, None, Bool, true, false, refl, sym, ap, ◌∙◌, arith, subst, nat_lt, if◌then◌else◌}
 use Rattle.std.proofs.lemmas.Bool.Decides.{nat_tests}
 use Rattle.std.specs.Option.{option_map}
 use Rattle.bb_net.specs.Net.{Gate, Flop, renamed_gate, renamed_flop}
 use Rattle.bb_net.specs.declared.variable.BitName.{BitName}
-use Rattle.bb_net.specs.Bits.{Bit, bit_of, role_bits, is_input, is_output, Entry}
+use Rattle.bb_net.specs.Bits.{bit_of, role_bits, is_input, is_output, Entry}
 use Rattle.bb_net.specs.Name.{IsName}
-use Rattle.bb_net.specs.Named.{Named, Design, IsNamed, IsConsistent, design_of, net_text, name_of_net}
+use Rattle.bb_net.specs.Named.{Named, IsNamed, design_of, net_text, name_of_net}
 use Rattle.bb_net.specs.Building.{started}
 use Rattle.bb_net.proofs.Lists.{map_twice, same_map, length_map}
 use Rattle.bb_net.proofs.ConsistentLemmas.{started_fits}

@@ -1,21 +1,20 @@
 -- The bits of ports, variable after variable.
-use Rattle.std.proofs.Common.{◌≡◌, ◌≢◌, ℕ, ◌+◌, ◌-◌, ◌≤◌, ◌<◌, ◌==◌, zero, suc, List, [], ◌∷◌, ◌++◌, length, map, Option, Some, None, Bool, true, false, ◌&&◌, nat_eq, nat_lt, All, Contains, slice_get, get_or, refl, sym, ap, ◌∙◌, arith, subst, if◌then◌else◌, append_assoc, length-append}
+use Rattle.std.proofs.Common.{◌≡◌, ℕ, ◌+◌, ◌-◌, ◌≤◌, ◌<◌, zero, suc, List, [], ◌∷◌, ◌++◌, length, map, Option, Some, None, Bool, true, false, nat_eq, nat_lt, Contains, refl, sym, ap, ◌∙◌, arith, subst, if◌then◌else◌, append_assoc}
 use Rattle.std.specs.List.{AllByRecursion, list_any, range_with_len}
-use Rattle.std.specs.Option.{ForSome}
-use Rattle.std.proofs.lemmas.List.Elements.{Contains-get_or, recursion_from_All, All-from_recursion}
+use Rattle.std.proofs.lemmas.List.Elements.{Contains-get_or, recursion_from_All}
 use Rattle.std.proofs.lemmas.List.{append-nil}
 use Rattle.std.proofs.lemmas.Bool.Decides.{nat_tests}
 use Rattle.bb_net.specs.declared.variable.Role.{Role}
 use Rattle.bb_net.specs.declared.variable.Role.TheVariants.{Input, Output, Wire}
 use Rattle.bb_net.specs.declared.variable.Variable.{Variable}
 use Rattle.bb_net.specs.declared.variable.BitName.{BitName}
-use Rattle.bb_net.specs.Net.{Gate, Flop, driven, reads}
-use Rattle.bb_net.specs.Bits.{Entry, Bit, IsBit, is_port, is_input, is_output, range_width, clock_place, places_but, bit_at, data_bits, role_bits}
-use Rattle.bb_net.specs.Named.{Named, IsNamed, IsConsistent, name_of_net}
-use Rattle.bb_net.specs.Building.{bit_eq, clock_with, port_bits, new_nets, with_variable}
+use Rattle.bb_net.specs.Net.{driven, reads}
+use Rattle.bb_net.specs.Bits.{Entry, is_port, is_input, is_output, range_width, clock_place, places_but, bit_at, data_bits, role_bits}
+use Rattle.bb_net.specs.Named.{Named, IsNamed, name_of_net}
+use Rattle.bb_net.specs.Building.{bit_eq, clock_with, port_bits}
 use Rattle.bb_net.proofs.Lists.{all_front, all_back, all_join, all_map_back}
-use Rattle.bb_print.specs.Toward.{Distinct, clock_among, IsDeclared}
-use Rattle.bb_print.proofs.Distincts.{any_none, distinct_join, distinct_front}
+use Rattle.bb_print.specs.Toward.{Distinct, clock_among}
+use Rattle.bb_print.proofs.Distincts.{any_none, distinct_join}
 
 -- the bits of one variable, where its role passes
 abbrev chunk : (Role → Bool) → Option BitName → ℕ → Entry → List BitName

@@ -1,5 +1,5 @@
 -- A text of lines, read one line at a time.
-use Rattle.std.proofs.Common.{◌≡◌, ℕ, List, [], ◌∷◌, ◌++◌, length, codes, Option, Some, None, Bool, true, false, IsSome, refl, sym, ap, ◌∙◌, arith, append_assoc, subst, eqb}
+use Rattle.std.proofs.Common.{◌≡◌, ℕ, List, [], ◌∷◌, ◌++◌, length, codes, Some, None, Bool, true, false, refl, sym, ap, ◌∙◌, arith, append_assoc, eqb}
 use Rattle.std.proofs.lemmas.Bool.Decides.{nat_tests}
 use Rattle.std.specs.List.{list_all, flat_map, AllByRecursion}
 use Rattle.bb_print.specs.Canonical.{with_feed}
@@ -22,43 +22,35 @@ pub nothing_first : first_line [] ≡ None
 unfolding first_line
 nothing_first = refl
 
--- what a section's first line says, and what is left behind it
-pub record Goes {A : Type 0} (test : List ℕ → Bool) (read : List ℕ → Option A) (line after : List ℕ) (others : List (List ℕ)) : Type 0 where
-  pub says : IsSome (read line)
-  pub rest : IsSection test read after others
-
 pub first_same : (text line line' after after' : List ℕ) → first_line text ≡ Some (line, after) → first_line text ≡ Some (line', after') → (line ≡ line') × (after ≡ after')
 first_same text line line' after after' a b = found_same line line' after after' (sym a ∙ b)
 
-pub section_goes : {A : Type 0} (test : List ℕ → Bool) (read : List ℕ → Option A) (text : List ℕ) (others : List (List ℕ)) (line after : List ℕ) → IsSection test read text others → first_line text ≡ Some (line, after) → test line ≡ true
-    → Goes test read line after others
-section_goes test read text others line after h f t = go h.lines others h.all h.stops h.text_is
+pub section_goes : (test : List ℕ → Bool) (text : List ℕ) (others : List (List ℕ)) (line after : List ℕ) → IsSection test text others → first_line text ≡ Some (line, after) → test line ≡ true
+    → IsSection test after others
+section_goes test text others line after h f t = go h.lines others h.all h.stops h.text_is
   where
-    go : (ls os : List (List ℕ)) → AllByRecursion (IsLineOf test read) ls → Stops test os → text ≡ flat_map with_feed (ls ++ os) → Goes test read line after os
+    go : (ls os : List (List ℕ)) → AllByRecursion (IsLineOf test) ls → Stops test os → text ≡ flat_map with_feed (ls ++ os) → IsSection test after os
     go [] [] all stops e = cc (sym f ∙ ap first_line e ∙ nothing_first)
     go [] (o ∷ os) all stops e =
         let same = first_same text line o after (flat_map with_feed os) f (ap first_line e ∙ line_again o (flat_map with_feed os) stops.0) in
         cc (sym t ∙ ap test same.0 ∙ stops.1)
     go (l ∷ ls) os all stops e =
         let same = first_same text line l after (flat_map with_feed (ls ++ os)) f (ap first_line e ∙ line_again l (flat_map with_feed (ls ++ os)) all.0.clean) in
-        record {
-          says = subst (λ z. IsSome (read z)) (sym same.0) all.0.says;
-          rest = record { lines = ls; all = all.1; stops = stops; text_is = same.1 };
-        }
+        record { lines = ls; all = all.1; stops = stops; text_is = same.1 }
 
-pub section_stops : {A : Type 0} (test : List ℕ → Bool) (read : List ℕ → Option A) (text : List ℕ) (others : List (List ℕ)) (line after : List ℕ) → IsSection test read text others → first_line text ≡ Some (line, after) → test line ≡ false
+pub section_stops : (test : List ℕ → Bool) (text : List ℕ) (others : List (List ℕ)) (line after : List ℕ) → IsSection test text others → first_line text ≡ Some (line, after) → test line ≡ false
     → text ≡ flat_map with_feed others
-section_stops test read text others line after h f t = go h.lines h.all h.text_is
+section_stops test text others line after h f t = go h.lines h.all h.text_is
   where
-    go : (ls : List (List ℕ)) → AllByRecursion (IsLineOf test read) ls → text ≡ flat_map with_feed (ls ++ others) → text ≡ flat_map with_feed others
+    go : (ls : List (List ℕ)) → AllByRecursion (IsLineOf test) ls → text ≡ flat_map with_feed (ls ++ others) → text ≡ flat_map with_feed others
     go [] all e = e
     go (l ∷ ls) all e =
         let same = first_same text line l after (flat_map with_feed (ls ++ others)) f (ap first_line e ∙ line_again l (flat_map with_feed (ls ++ others)) all.0.clean) in
         cc (sym t ∙ ap test same.0 ∙ all.0.passes)
 
-pub section_ends : {A : Type 0} (test : List ℕ → Bool) (read : List ℕ → Option A) (text : List ℕ) (others : List (List ℕ)) → IsSection test read text others → first_line text ≡ None → text ≡ flat_map with_feed others
-section_ends test read text others h f = go h.lines h.all h.text_is
+pub section_ends : (test : List ℕ → Bool) (text : List ℕ) (others : List (List ℕ)) → IsSection test text others → first_line text ≡ None → text ≡ flat_map with_feed others
+section_ends test text others h f = go h.lines h.all h.text_is
   where
-    go : (ls : List (List ℕ)) → AllByRecursion (IsLineOf test read) ls → text ≡ flat_map with_feed (ls ++ others) → text ≡ flat_map with_feed others
+    go : (ls : List (List ℕ)) → AllByRecursion (IsLineOf test) ls → text ≡ flat_map with_feed (ls ++ others) → text ≡ flat_map with_feed others
     go [] all e = e
     go (l ∷ ls) all e = cc (sym f ∙ ap first_line e ∙ line_again l (flat_map with_feed (ls ++ others)) all.0.clean)

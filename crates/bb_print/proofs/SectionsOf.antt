@@ -1,5 +1,5 @@
 -- The sections of a canonical text.
-use Rattle.std.proofs.Common.{◌≡◌, ℕ, ◌+◌, ◌≤◌, ◌<◌, List, [], ◌∷◌, ◌++◌, length, map, codes, Option, Some, None, Bool, true, false, is_some, IsSome, refl, sym, ap, ◌∙◌, arith, subst}
+use Rattle.std.proofs.Common.{◌≡◌, ℕ, ◌+◌, ◌≤◌, ◌<◌, List, [], ◌∷◌, ◌++◌, length, map, codes, Option, Some, None, Bool, true, false, refl, sym, ap, ◌∙◌, arith, subst}
 use Rattle.std.specs.List.{AllByRecursion, flat_map}
 use Rattle.bb_net.specs.declared.net.Op.{Op}
 use Rattle.bb_net.specs.declared.net.Op.TheVariants.{And, Nand, Or, Nor, Xor, Xnor, Not, Buf, Zero, One}
@@ -11,15 +11,12 @@ use Rattle.bb_net.specs.Named.{Design}
 use Rattle.bb_print.specs.Spelling.{module_line, declaration, statement_by, statement, flop_line}
 use Rattle.bb_print.specs.Canonical.{port_names, flop_lines, with_feed, canonical_text}
 use Rattle.bb_print.specs.Reading.{number_cap}
-use Rattle.bb_print.specs.Lines.{first_line, module_of, role_of, declaration_of, statement_of, flop_of, declares, clocks, states, IsLineOf, Stops, IsSection}
+use Rattle.bb_print.specs.Lines.{first_line, role_of, declares, clocks, states, IsLineOf, Stops, IsSection}
 use Rattle.bb_print.proofs.Again.{IsBitText}
-use Rattle.bb_print.proofs.LineAgain.{module_again, declaration_again, statement_again, flop_again, IsGateText, IsFlopText}
+use Rattle.bb_print.proofs.LineAgain.{IsGateText, IsFlopText}
 use Rattle.bb_print.proofs.Clean.{module_clean, declaration_clean, statement_clean, flop_clean}
 use Rattle.bb_print.proofs.OneDesign.{Clocked, IsText}
 use Rattle.bb_print.proofs.Sections.{line_again}
-
-pub some_is : {A : Type 0} (o : Option A) (x : A) → o ≡ Some x → IsSome o
-some_is o x e = ap is_some e
 
 -- how each kind of line begins
 pub declares_declared : (name : List ℕ) (range : Option (ℕ × ℕ)) (role : Role) → declares (declaration (name, record { range = range; role = role })) ≡ true
@@ -66,20 +63,20 @@ unfolding declares role_of states clocks
 end_kinds = (refl, refl, refl)
 
 -- the lines of each section
-pub declared_line : (v : Entry) → IsEntry v → IsLineOf declares declaration_of (declaration v)
-declared_line v h = record { clean = declaration_clean v h; passes = declares_declared v.0 v.1.range v.1.role; says = some_is (declaration_of (declaration v)) v (declaration_again v h) }
+pub declared_line : (v : Entry) → IsEntry v → IsLineOf declares (declaration v)
+declared_line v h = record { clean = declaration_clean v h; passes = declares_declared v.0 v.1.range v.1.role }
 
-pub stated_line : (g : Gate Bit) → IsGateText g → IsLineOf states statement_of (statement g)
-stated_line g h = record { clean = statement_clean g h; passes = states_stated g.op g.out g.ins; says = some_is (statement_of (statement g)) g (statement_again g h) }
+pub stated_line : (g : Gate Bit) → IsGateText g → IsLineOf states (statement g)
+stated_line g h = record { clean = statement_clean g h; passes = states_stated g.op g.out g.ins }
 
-pub clocked_line : (c : Bit) (j : ℕ) (f : Flop Bit) → j < number_cap → IsBitText c → IsFlopText f → IsLineOf clocks flop_of (flop_line (Some c) j f)
-clocked_line c j f small h k = record { clean = flop_clean c j f small h k; passes = (flop_kinds c j f).2; says = some_is (flop_of (flop_line (Some c) j f)) _ (flop_again c j f small h k) }
+pub clocked_line : (c : Bit) (j : ℕ) (f : Flop Bit) → j < number_cap → IsBitText c → IsFlopText f → IsLineOf clocks (flop_line (Some c) j f)
+clocked_line c j f small h k = record { clean = flop_clean c j f small h k; passes = (flop_kinds c j f).2 }
 
-pub all_lines : {X A : Type 0} (P : X → Type 0) (f : X → List ℕ) (test : List ℕ → Bool) (read : List ℕ → Option A) → ((x : X) → P x → IsLineOf test read (f x)) → (xs : List X) → AllByRecursion P xs → AllByRecursion (IsLineOf test read) (map f xs)
-all_lines P f test read g [] all = tt
-all_lines P f test read g (x ∷ xs) all = (g x all.0, all_lines P f test read g xs all.1)
+pub all_lines : {X : Type 0} (P : X → Type 0) (f : X → List ℕ) (test : List ℕ → Bool) → ((x : X) → P x → IsLineOf test (f x)) → (xs : List X) → AllByRecursion P xs → AllByRecursion (IsLineOf test) (map f xs)
+all_lines P f test g [] all = tt
+all_lines P f test g (x ∷ xs) all = (g x all.0, all_lines P f test g xs all.1)
 
-pub clocked_lines : (c : Bit) (j : ℕ) (fs : List (Flop Bit)) → j + length fs ≤ number_cap → IsBitText c → AllByRecursion IsFlopText fs → AllByRecursion (IsLineOf clocks flop_of) (flop_lines (Some c) j fs)
+pub clocked_lines : (c : Bit) (j : ℕ) (fs : List (Flop Bit)) → j + length fs ≤ number_cap → IsBitText c → AllByRecursion IsFlopText fs → AllByRecursion (IsLineOf clocks) (flop_lines (Some c) j fs)
 clocked_lines c j [] small h all = tt
 clocked_lines c j (f ∷ fs) small h all = (clocked_line c j f (omega arith) h all.0, clocked_lines c (j + 1) fs (omega arith) h all.1)
 
@@ -92,8 +89,8 @@ flops_and_end d = flop_lines d.clock 0 d.netlist.flops ++ the_end
 abbrev pub gates_and_end : Design → List (List ℕ)
 gates_and_end d = map statement d.netlist.gates ++ flops_and_end d
 
-pub flop_section : (c : Option Bit) (fs : List (Flop Bit)) → Clocked c fs → length fs ≤ number_cap → AllByRecursion IsFlopText fs → AllByRecursion (IsLineOf clocks flop_of) (flop_lines c 0 fs)
-flop_section None fs e small all = subst (λ xs. AllByRecursion (IsLineOf clocks flop_of) (flop_lines None 0 xs)) (sym e) tt
+pub flop_section : (c : Option Bit) (fs : List (Flop Bit)) → Clocked c fs → length fs ≤ number_cap → AllByRecursion IsFlopText fs → AllByRecursion (IsLineOf clocks) (flop_lines c 0 fs)
+flop_section None fs e small all = subst (λ xs. AllByRecursion (IsLineOf clocks) (flop_lines None 0 xs)) (sym e) tt
 flop_section (Some c) fs e small all = clocked_lines c 0 fs (omega arith) e.0 all
 
 flops_stop_at : (test : List ℕ → Bool) → ((c : Bit) (j : ℕ) (f : Flop Bit) → test (flop_line (Some c) j f) ≡ false) → test (codes "endmodule") ≡ false → (c : Bit) (fs : List (Flop Bit)) → length fs ≤ number_cap → IsBitText c → AllByRecursion IsFlopText fs
@@ -119,10 +116,9 @@ pub record Sections (text : List ℕ) : Type 0 where
   pub gates : List (List ℕ)
   pub flops : List (List ℕ)
   pub first : first_line text ≡ Some (head, body)
-  pub says : IsSome (module_of head)
-  pub one : (rest : List ℕ) → rest ≡ body → IsSection declares declaration_of rest gates
-  pub two : (rest : List ℕ) → rest ≡ flat_map with_feed gates → IsSection states statement_of rest flops
-  pub three : (rest : List ℕ) → rest ≡ flat_map with_feed flops → IsSection clocks flop_of rest (codes "endmodule" ∷ [])
+  pub one : (rest : List ℕ) → rest ≡ body → IsSection declares rest gates
+  pub two : (rest : List ℕ) → rest ≡ flat_map with_feed gates → IsSection states rest flops
+  pub three : (rest : List ℕ) → rest ≡ flat_map with_feed flops → IsSection clocks rest (codes "endmodule" ∷ [])
 
 abbrev pub sections_of : (d : Design) (text : List ℕ) → IsText d → text ≡ canonical_text d → Sections text
 sections_of d text h e = record {
@@ -131,16 +127,15 @@ sections_of d text h e = record {
   gates = gates_and_end d;
   flops = flops_and_end d;
   first = ap first_line e ∙ line_again (module_line d.module_name (port_names d.variables)) (flat_map with_feed (map declaration d.variables ++ gates_and_end d)) (module_clean d.module_name (port_names d.variables) h.name h.ports);
-  says = some_is (module_of (module_line d.module_name (port_names d.variables))) d.module_name (module_again d.module_name (port_names d.variables) h.name);
   one = λ rest r. record {
     lines = map declaration d.variables;
-    all = all_lines IsEntry declaration declares declaration_of declared_line d.variables h.variables;
+    all = all_lines IsEntry declaration declares declared_line d.variables h.variables;
     stops = gates_stop d.netlist.gates (flops_and_end d) h.gates (flops_stop declares (λ c j f. (flop_kinds c j f).0) end_kinds.0 d.clock d.netlist.flops h.clock h.few h.flops);
     text_is = r;
   };
   two = λ rest r. record {
     lines = map statement d.netlist.gates;
-    all = all_lines IsGateText statement states statement_of stated_line d.netlist.gates h.gates;
+    all = all_lines IsGateText statement states stated_line d.netlist.gates h.gates;
     stops = flops_stop states (λ c j f. (flop_kinds c j f).1) end_kinds.1 d.clock d.netlist.flops h.clock h.few h.flops;
     text_is = r;
   };

@@ -1,5 +1,5 @@
 -- A canonical text as the lines of a netlist's variables, gates and flip-flops, and its clock.
-use Rattle.std.proofs.Common.{◌≡◌, ℕ, ◌+◌, ◌<◌, ◌≤◌, ◌^◌, List, [], ◌∷◌, ◌++◌, length, map, codes, Option, Some, None, Bool, true, false, IsSome, refl, sym, ap, ◌∙◌, arith, subst}
+use Rattle.std.proofs.Common.{◌≡◌, ℕ, ◌+◌, ◌<◌, ◌≤◌, List, [], ◌∷◌, ◌++◌, length, map, codes, Option, Some, None, true, false, refl, sym, ap, ◌∙◌, arith}
 use Rattle.std.specs.List.{AllByRecursion, flat_map, list_all}
 use Rattle.bb_net.specs.declared.net.Op.{Op}
 use Rattle.bb_net.specs.declared.net.Op.TheVariants.{And, Nand, Or, Nor, Xor, Xnor, Not, Buf, Zero, One}
@@ -8,12 +8,12 @@ use Rattle.bb_net.specs.declared.variable.Role.TheVariants.{Input, Output, Wire}
 use Rattle.bb_net.specs.Net.{Gate, Flop, renamed_gate, renamed_flop}
 use Rattle.bb_net.specs.Bits.{Entry, Bit, IsEntry}
 use Rattle.bb_net.specs.Named.{Named, Design, design_of, net_text}
-use Rattle.bb_print.specs.Spelling.{module_line, declaration, statement_by, statement, flop_line}
+use Rattle.bb_print.specs.Spelling.{module_line, declaration, statement_by, statement}
 use Rattle.bb_print.specs.Canonical.{port_names, flop_lines, with_feed, canonical_text, canonical_lines}
 use Rattle.bb_print.specs.Reading.{number_cap}
 use Rattle.bb_print.specs.Limits.{IsNumbered}
-use Rattle.bb_print.specs.Lines.{first_line, is_line_byte, module_of, declaration_of, statement_of, flop_of, declares, clocks, states}
-use Rattle.bb_print.specs.Along.{Says, SayAll, Along, SaysVariable, SaysGate, SaysFlop, ClockIn, ClockLeft, clock_text}
+use Rattle.bb_print.specs.Lines.{first_line, is_line_byte, module_of, flop_of, declares, clocks, states}
+use Rattle.bb_print.specs.Along.{SayAll, Along, SaysVariable, SaysGate, SaysFlop, ClockIn, ClockLeft, clock_text}
 use Rattle.bb_print.proofs.Again.{IsBitText}
 use Rattle.bb_print.proofs.LineAgain.{module_again, declaration_again, statement_again, flop_again, IsGateText, IsFlopText}
 use Rattle.bb_print.proofs.Clean.{module_clean, declaration_clean, statement_clean, flop_clean}

@@ -7,3 +7,6 @@ pub mod Limits
 pub mod Toward
 pub mod Faults
 pub mod Along
+pub mod Places
+pub mod Grammatical
+pub mod Forms

@@ -1,5 +1,5 @@
 -- What a whole line says, or nothing where it is no line of its kind.
-use Rattle.std.specs.Prelude.{◌≡◌, Bool, true, false, not, is_some, IsSome, ◌==◌, take, ℕ, List, [], ◌∷◌, ◌++◌, length, drop, codes, Option, Some, None, zero, suc, if◌then◌else◌}
+use Rattle.std.specs.Prelude.{◌≡◌, Bool, true, false, not, is_some, ◌==◌, take, ℕ, List, [], ◌∷◌, ◌++◌, length, drop, codes, Option, Some, None, zero, suc, if◌then◌else◌}
 use Rattle.std.specs.Option.{option_map}
 use Rattle.std.specs.List.{prefix_len, list_all, flat_map, AllByRecursion}
 use Rattle.std.specs.Str.{bytes_eq}
@@ -120,11 +120,10 @@ clocks line = begins (codes "dff ") line
 unfoldable pub states : List ℕ → Bool
 states line = if begins (codes "dff ") line then false else not (bytes_eq line (codes "endmodule"))
 
--- a line without line feeds that begins as one of its kind and says something
-pub record IsLineOf {A : Type 0} (test : List ℕ → Bool) (read : List ℕ → Option A) (line : List ℕ) : Type 0 where
+-- a line without line feeds that begins as one of its kind
+pub record IsLineOf (test : List ℕ → Bool) (line : List ℕ) : Type 0 where
   pub clean : list_all is_line_byte line ≡ true
   pub passes : test line ≡ true
-  pub says : IsSome (read line)
 
 -- none such comes first
 abbrev pub Stops : (List ℕ → Bool) → List (List ℕ) → Type 0
@@ -132,8 +131,8 @@ Stops test [] = Unit {0}
 Stops test (line ∷ lines) = (list_all is_line_byte line ≡ true) × (test line ≡ false)
 
 -- the text is such lines, and then these others
-pub record IsSection {A : Type 0} (test : List ℕ → Bool) (read : List ℕ → Option A) (text : List ℕ) (others : List (List ℕ)) : Type 0 where
+pub record IsSection (test : List ℕ → Bool) (text : List ℕ) (others : List (List ℕ)) : Type 0 where
   pub lines : List (List ℕ)
-  pub all : AllByRecursion (IsLineOf test read) lines
+  pub all : AllByRecursion (IsLineOf test) lines
   pub stops : Stops test others
   pub text_is : text ≡ flat_map with_feed (lines ++ others)

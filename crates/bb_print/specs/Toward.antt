@@ -1,5 +1,5 @@
 -- A draft on the way to a netlist whose text is read.
-use Rattle.std.specs.Prelude.{◌≡◌, ◌≢◌, ℕ, ◌+◌, ◌<◌, ◌==◌, nat_lt, Bool, true, false, List, [], ◌∷◌, ◌++◌, length, map, All, Contains, Option, None, Some, slice_get, if◌then◌else◌}
+use Rattle.std.specs.Prelude.{◌≡◌, ℕ, ◌<◌, nat_lt, false, List, [], ◌∷◌, ◌++◌, length, map, Contains, Option, None, Some, if◌then◌else◌}
 use Rattle.std.specs.List.{list_any, AllByRecursion}
 use Rattle.bb_net.specs.declared.variable.BitName.{BitName}
 use Rattle.bb_net.specs.Net.{Gate, Flop, renamed_gate, renamed_flop, HasArity}

@@ -5,14 +5,19 @@
 //! - A text is the canonical text of one design at most: a netlist that is printed and read again has the same
 //!   module, ports, clock and drivers. The numbers of nets may differ.
 //! - The canonical text of a netlist within a builder's limits is read, where there is memory.
+//! - A refusal names the first line that may not stand in its place, by its form and the lines before it, or that is
+//!   missing. Where all lines may stand, no netlist within a builder's limits has this text.
+//! - The canonical text of a netlist meets neither a lexical nor a grammatical fault.
 //!
-//! Not promised: which refusal comes of a text that is not canonical.
-//! `specs/Spelling.antt` says how names, bits and statements are written, `specs/Canonical.antt` what the text is.
+//! `specs/Spelling.antt` says how names, bits and statements are written, `specs/Canonical.antt` what the text is,
+//! `specs/Forms.antt` which line may stand where, and `specs/Places.antt` how that is found.
 #![tactic(auto)]
 
 mod draft;
 mod laws;
 mod line;
+mod lines;
+mod places;
 mod read;
 mod scan;
 mod spell;
@@ -22,6 +27,6 @@ mod tests;
 mod text;
 
 pub use draft::CanonFault;
-pub use laws::one_design;
+pub use laws::{canonical_is_grammatical, lines_stand_by_their_forms, one_bad_line, one_design};
 pub use read::read_canonical;
 pub use text::print;

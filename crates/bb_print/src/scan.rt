@@ -61,7 +61,7 @@ pub(crate) fn begins_with(mark: &[u8], bytes: &[u8]) -> bool
 }
 
 /// What follows a mark at the front.
-pub(crate) fn after<'a>(mark: &'static [u8], bytes: &'a [u8]) -> Result<&'a [u8], LineFault>
+pub(crate) fn after<'a>(mark: &[u8], bytes: &'a [u8]) -> Result<&'a [u8], LineFault>
     ensures { Gives (λ rest. rest.now) result (after_mark mark.now bytes.now) }
 {
     match bytes.strip_prefix(mark) {

@@ -183,7 +183,7 @@ pub(crate) fn read_statement(alloc: Global, line: &[u8]) -> Result<Statement, Li
 }
 
 #[tactic(auto, unfolding(crate::specs::Lines::pins_of))]
-fn read_pins(alloc: Global, number: u32, bytes: &[u8]) -> Result<Instance, LineFault>
+pub(crate) fn read_pins(alloc: Global, number: u32, bytes: &[u8]) -> Result<Instance, LineFault>
     ensures { Gives (λ i. i) result (pins_of number bytes.now) }
 {
     let rest = after(b" (", bytes)?;

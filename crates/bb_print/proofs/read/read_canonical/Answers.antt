@@ -1,22 +1,22 @@
-use Rattle.std.proofs.Common.{◌≡◌, ◌++◌, ◌∙◌, sym, ap, rules}
+use Rattle.std.proofs.Common.{sym, ◌∙◌}
 use Rattle.bb_net.specs.Named.{design_of}
-use Rattle.bb_print.specs.Canonical.{canonical_text}
-use Rattle.bb_print.specs.Limits.{IsNumbered}
-use Rattle.bb_print.proofs.Redrawn.{drawn_design}
-use Rattle.bb_print.proofs.Designs.{one_design}
+use Rattle.bb_print.specs.declared.draft.CanonFault.TheVariants.{Line, Unfit}
+use Rattle.bb_print.proofs.Designs.{one_design, design_text}
+use Rattle.bb_print.proofs.FirstBad.{told, told_right, err_same}
+use Rattle.bb_print.proofs.Standing.{text_stands, buildable_numbered, names_no_line}
 use Rattle.bb_print.proofs.read.read_canonical.Goals as goal
 
-pub returns-then-eq-clause-same : goal.returns-then-eq-clause-same
-returns-then-eq-clause-same c =
-    let text : canonical_text (design_of c.in_ok-named.named) ≡ c.args.text.now = search rules in
-    let fits : IsNumbered c.in_ok-named.named = search rules in
-    λ a h e. one_design c.in_ok-named.named a fits h (text ∙ sym e)
+pub returns-in-Ok-clause-same : goal.returns-in-Ok-clause-same
+returns-in-Ok-clause-same c = λ a h e. one_design c.in-Ok.named a (buildable_numbered c.in-Ok.named c.in-Ok.ensures.buildable) h (c.in-Ok.ensures.accepts ∙ sym e)
 
-pub returns-else-eq-clause-complete : goal.returns-else-eq-clause-complete
-returns-else-eq-clause-complete c = λ a b n e.
-    let design : design_of c.in_ok-named.named ≡ design_of a = drawn_design a c.in_ok-named.named b.named (c.in_ok-named.ensures.drawn a b n e) in
-    let whole : c.new-again.result.items ++ canonical_text (design_of c.in_ok-named.named) ≡ c.args.text.now = ap (λ ks. ks ++ canonical_text (design_of c.in_ok-named.named)) c.new-again.ensures.items ∙ ap canonical_text design ∙ sym e in
-    let same : c.as_slice.result.now ≡ c.args.text.now = c.as_slice.ensures.value ∙ c.in_ok-print.ensures.ok ∙ whole in
-    let told = c.eq.ensures in
-    let other = c.if-eq.false in
-    search rules
+pub returns-in-Ok-clause-right : goal.returns-in-Ok-clause-right
+returns-in-Ok-clause-right c = λ _. told_right c.args.text.now (text_stands (design_of c.in-Ok.named) c.args.text.now (design_text c.in-Ok.named (buildable_numbered c.in-Ok.named c.in-Ok.ensures.buildable)) (sym c.in-Ok.ensures.accepts))
+
+pub returns-in-Err-Unfit-clause-known : goal.returns-in-Err-Unfit-clause-known
+returns-in-Err-Unfit-clause-known c = λ a h e. names_no_line c.refusal.result c.args.text.now (text_stands (design_of a) c.args.text.now (design_text a h) e) c.refusal.ensures.line
+
+pub returns-in-Err-Unfit-clause-line : goal.returns-in-Err-Unfit-clause-line
+returns-in-Err-Unfit-clause-line c = λ line e. told c.args.text.now line (c.refusal.ensures.line line (err_same c.refusal.result (Line line) e))
+
+pub returns-in-Err-Unfit-clause-unfit : goal.returns-in-Err-Unfit-clause-unfit
+returns-in-Err-Unfit-clause-unfit c = λ e. told_right c.args.text.now (c.refusal.ensures.unfit (err_same c.refusal.result Unfit e))

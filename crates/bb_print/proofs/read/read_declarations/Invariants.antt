@@ -1,13 +1,13 @@
 use Rattle.std.proofs.Common.{◌≡◌, ℕ, List, length}
 use Rattle.bb_net.specs.Named.{Named}
-use Rattle.bb_print.specs.Lines.{IsSection, declares, declaration_of}
+use Rattle.bb_print.specs.Lines.{IsSection, declares}
 use Rattle.bb_print.specs.Limits.{IsBuildable}
 use Rattle.bb_print.specs.Along.{VariablesLeft, clock_text}
 use Rattle.bb_print.proofs.read.read_declarations.Given as goal
 
 abbrev pub invariant-lines : goal.invariant-lines
 invariant-lines l = record {
-  section : (others : List (List ℕ)) → IsSection declares declaration_of l.text others → IsSection declares declaration_of l.rest others;
+  section : (others : List (List ℕ)) → IsSection declares l.text others → IsSection declares l.rest others;
   left : (a : Named) (others : List (List ℕ)) → IsBuildable a → l.clock ≡ clock_text a → VariablesLeft a l.fn.draft l.text others → VariablesLeft a l.draft l.rest others;
 }
 

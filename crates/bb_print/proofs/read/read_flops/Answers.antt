@@ -1,6 +1,6 @@
 use Rattle.std.proofs.Common.{◌≡◌, true, false, None, sym, rules}
 use Rattle.std.proofs.lemmas.Result.{err_from_is_err_and}
-use Rattle.bb_print.specs.Lines.{clocks, flop_of, first_line}
+use Rattle.bb_print.specs.Lines.{clocks, first_line}
 use Rattle.bb_print.proofs.AlongLemmas.{flop_goes, flops_stop, flops_end}
 use Rattle.bb_print.proofs.Sections.{section_goes, section_stops, section_ends}
 use Rattle.bb_print.proofs.read.read_flops.Goals as goal
@@ -8,25 +8,18 @@ use Rattle.bb_print.proofs.read.read_flops.Goals as goal
 pub returns-in_default-clause-rest : goal.returns-in_default-clause-rest
 returns-in_default-clause-rest c = λ others h.
     let none : first_line c.lines.rest.now ≡ None = sym c.in_default.ensures.value in
-    section_ends clocks flop_of c.lines.rest.now others (c.lines.invariant.section others h) none
+    section_ends clocks c.lines.rest.now others (c.lines.invariant.section others h) none
 
 pub returns-then-not-is_flop-clause-rest : goal.returns-then-not-is_flop-clause-rest
 returns-then-not-is_flop-clause-rest c = λ others h.
     let t : clocks c.in-Some.line.now ≡ false = search rules in
-    section_stops clocks flop_of c.lines.rest.now others c.in-Some.line.now c.in-Some.after.now (c.lines.invariant.section others h) (sym c.in-Some.ensures.value) t
-
-pub returns-in_err-read_instance-clause-known : goal.returns-in_err-read_instance-clause-known
-returns-in_err-read_instance-clause-known c = λ others h.
-    let t : clocks c.in-Some.line.now ≡ true = search rules in
-    let goes = section_goes clocks flop_of c.lines.rest.now others c.in-Some.line.now c.in-Some.after.now (c.lines.invariant.section others h) (sym c.in-Some.ensures.value) t in
-    let p = err_from_is_err_and c.from_residual.result c.from_residual.ensures.1 in
-    rw (p.1, p.2) (c.in_err-read_instance.ensures.known goes.says)
+    section_stops clocks c.lines.rest.now others c.in-Some.line.now c.in-Some.after.now (c.lines.invariant.section others h) (sym c.in-Some.ensures.value) t
 
 pub lines-preserved : goal.lines-preserved
 lines-preserved c = record {
   section = λ others h.
       let t : clocks c.in-Some.line.now ≡ true = search rules in
-      (section_goes clocks flop_of c.lines.rest.now others c.in-Some.line.now c.in-Some.after.now (c.lines.invariant.section others h) (sym c.in-Some.ensures.value) t).rest;
+      section_goes clocks c.lines.rest.now others c.in-Some.line.now c.in-Some.after.now (c.lines.invariant.section others h) (sym c.in-Some.ensures.value) t;
   left = λ a others b h.
       let t : clocks c.in-Some.line.now ≡ true = search rules in
       let goes = flop_goes a c.lines.draft c.lines.rest.now others c.in-Some.line.now c.in-Some.after.now b (c.lines.invariant.left a others b h) (sym c.in-Some.ensures.value) t in

@@ -1,13 +1,13 @@
-use Rattle.std.proofs.Common.{◌≡◌, ℕ, List, length}
+use Rattle.std.proofs.Common.{ℕ, List, length}
 use Rattle.bb_net.specs.Named.{Named}
-use Rattle.bb_print.specs.Lines.{IsSection, clocks, flop_of}
+use Rattle.bb_print.specs.Lines.{IsSection, clocks}
 use Rattle.bb_print.specs.Limits.{IsBuildable}
-use Rattle.bb_print.specs.Along.{FlopsLeft, clock_text}
+use Rattle.bb_print.specs.Along.{FlopsLeft}
 use Rattle.bb_print.proofs.read.read_flops.Given as goal
 
 abbrev pub invariant-lines : goal.invariant-lines
 invariant-lines l = record {
-  section : (others : List (List ℕ)) → IsSection clocks flop_of l.text others → IsSection clocks flop_of l.rest others;
+  section : (others : List (List ℕ)) → IsSection clocks l.text others → IsSection clocks l.rest others;
   left : (a : Named) (others : List (List ℕ)) → IsBuildable a → FlopsLeft a l.fn.draft l.text others → FlopsLeft a l.draft l.rest others;
 }
 

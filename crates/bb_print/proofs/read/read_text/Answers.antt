@@ -2,9 +2,7 @@ use Rattle.std.proofs.lemmas.Result.{err_from_is_err_and}
 use Rattle.bb_net.specs.Named.{design_of}
 use Rattle.bb_print.proofs.Designs.{design_text}
 use Rattle.bb_print.proofs.SectionsOf.{sections_of, the_end}
-use Rattle.std.proofs.Common.{◌≡◌, sym, ap, ◌∙◌, Some, [], refl, subst, is_some}
-use Rattle.bb_net.specs.Named.{Named}
-use Rattle.bb_print.specs.Lines.{module_of}
+use Rattle.std.proofs.Common.{◌≡◌, sym, ap, ◌∙◌, [], refl, subst, is_some}
 use Rattle.bb_print.specs.Along.{clock_text, VariablesLeft, GatesLeft, FlopsLeft}
 use Rattle.bb_print.specs.Toward.{IsDrawn, IsDeclared}
 use Rattle.bb_print.proofs.Draws.{declared_drawn}
@@ -12,46 +10,6 @@ use Rattle.bb_print.proofs.Whole.{wholly, clock_left}
 use Rattle.bb_print.proofs.Redrawn.{nothing_declared}
 use Rattle.std.proofs.lemmas.Option.{same_Some}
 use Rattle.bb_print.proofs.read.read_text.Goals as goal
-
-pub returns-in_err-name-clause-known : goal.returns-in_err-name-clause-known
-returns-in_err-name-clause-known c = λ a h e.
-    let s = sections_of (design_of a) c.args.text.now (design_text a h) e in
-    let p = err_from_is_err_and c.from_residual-in_err-name.result c.from_residual-in_err-name.ensures.1 in
-    rw (p.1, p.2) (c.in_err-name.ensures.known s.head s.body s.first s.says)
-
-pub returns-in_err-rest-clause-known : goal.returns-in_err-rest-clause-known
-returns-in_err-rest-clause-known c = λ a h e.
-    let s = sections_of (design_of a) c.args.text.now (design_text a h) e in
-    let body = c.in_ok-name.ensures.rest s.head s.body s.first in
-    let p = err_from_is_err_and c.from_residual-in_err-rest.result c.from_residual-in_err-rest.ensures.1 in
-    rw (p.1, p.2) (c.in_err-rest.ensures.known s.gates (s.one c.in_ok-name.rest.now body))
-
-pub returns-in_err-rest-2-clause-known : goal.returns-in_err-rest-2-clause-known
-returns-in_err-rest-2-clause-known c = λ a h e.
-    let s = sections_of (design_of a) c.args.text.now (design_text a h) e in
-    let body = c.in_ok-name.ensures.rest s.head s.body s.first in
-    let gates = c.in_ok-rest.ensures.rest s.gates (s.one c.in_ok-name.rest.now body) in
-    let p = err_from_is_err_and c.from_residual-in_err-rest-2.result c.from_residual-in_err-rest-2.ensures.1 in
-    rw (p.1, p.2) (c.in_err-rest-2.ensures.known s.flops (s.two c.in_ok-rest.rest.now gates))
-
-pub returns-in_err-rest-3-clause-known : goal.returns-in_err-rest-3-clause-known
-returns-in_err-rest-3-clause-known c = λ a h e.
-    let s = sections_of (design_of a) c.args.text.now (design_text a h) e in
-    let body = c.in_ok-name.ensures.rest s.head s.body s.first in
-    let gates = c.in_ok-rest.ensures.rest s.gates (s.one c.in_ok-name.rest.now body) in
-    let flops = c.in_ok-rest-2.ensures.rest s.flops (s.two c.in_ok-rest.rest.now gates) in
-    let p = err_from_is_err_and c.from_residual-in_err-rest-3.result c.from_residual-in_err-rest-3.ensures.1 in
-    rw (p.1, p.2) (c.in_err-rest-3.ensures.known _ (s.three c.in_ok-rest-2.rest.now flops))
-
-pub returns-in_err-read_end-clause-known : goal.returns-in_err-read_end-clause-known
-returns-in_err-read_end-clause-known c = λ a h e.
-    let s = sections_of (design_of a) c.args.text.now (design_text a h) e in
-    let body = c.in_ok-name.ensures.rest s.head s.body s.first in
-    let gates = c.in_ok-rest.ensures.rest s.gates (s.one c.in_ok-name.rest.now body) in
-    let flops = c.in_ok-rest-2.ensures.rest s.flops (s.two c.in_ok-rest.rest.now gates) in
-    let last = c.in_ok-rest-3.ensures.rest _ (s.three c.in_ok-rest-2.rest.now flops) in
-    let ok = c.in_err-read_end.ensures last in
-    cc ok
 
 pub returns-in_err-name-clause-want : goal.returns-in_err-name-clause-want
 returns-in_err-name-clause-want c = λ a b n e.
@@ -108,7 +66,7 @@ returns-in_err-read_end-clause-want c = λ a b n e.
     let gates = c.in_ok-rest.ensures.rest s.gates (s.one c.in_ok-name.rest.now body) in
     let flops = c.in_ok-rest-2.ensures.rest s.flops (s.two c.in_ok-rest.rest.now gates) in
     let last = c.in_ok-rest-3.ensures.rest _ (s.three c.in_ok-rest-2.rest.now flops) in
-    let ok = c.in_err-read_end.ensures last in
+    let ok = c.in_err-read_end.ensures.end last in
     cc ok
 
 pub returns-in_err-named-clause-want : goal.returns-in_err-named-clause-want

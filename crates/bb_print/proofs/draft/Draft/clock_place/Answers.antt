@@ -1,7 +1,7 @@
-use Rattle.std.proofs.Common.{◌≡◌, ℕ, None, Some, true, false, ap, sym, ◌∙◌, rules}
+use Rattle.std.proofs.Common.{◌≡◌, ap, sym, ◌∙◌}
 use Rattle.bb_net.specs.declared.variable.Role.TheVariants.{Input}
 use Rattle.bb_net.specs.declared.variable.Variable.{Variable}
-use Rattle.bb_net.specs.Bits.{Entry, Bit, is_input}
+use Rattle.bb_net.specs.Bits.{Bit}
 use Rattle.bb_print.specs.Drafting.{place_of}
 use Rattle.bb_print.proofs.Declaring.{clock_placed, clock_elsewhere, some_not, input_only, name_ne, name_eq}
 use Rattle.bb_print.proofs.draft.Draft.clock_place.Goals.{then-is_some-via-then-is_some, then-is_some-via-else-is_some+then-ne, then-is_some-via-else-is_some+else-ne+then-ne-2}

@@ -1,8 +1,7 @@
-use Rattle.std.proofs.Common.{◌≡◌, ℕ, List, None, Some, length, ap, subst, sym, ◌∙◌, rules}
-use Rattle.bb_net.specs.declared.variable.BitName.{BitName}
+use Rattle.std.proofs.Common.{◌≡◌, Some, length, ap, ◌∙◌}
 use Rattle.bb_net.specs.Net.{Flop}
 use Rattle.bb_net.specs.Bits.{Bit}
-use Rattle.bb_net.specs.Named.{name_of_net, net_text}
+use Rattle.bb_net.specs.Named.{net_text}
 use Rattle.bb_net.specs.Building.{with_flop}
 use Rattle.bb_net.proofs.BitLemmas.{bit_eq_itself}
 use Rattle.bb_print.specs.Lines.{Instance}

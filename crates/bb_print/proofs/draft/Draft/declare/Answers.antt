@@ -1,10 +1,8 @@
-use Rattle.std.proofs.Common.{◌≡◌, ℕ, None, Some, Ok, Err, true, false, ap, sym, subst, ◌∙◌, rules}
-use Rattle.std.specs.Option.{ForSome}
+use Rattle.std.proofs.Common.{◌≡◌, Some, Err, ap, sym, subst, ◌∙◌}
 use Rattle.bb_net.specs.declared.variable.Variable.{Variable}
 use Rattle.bb_net.specs.Named.{lookup_of}
 use Rattle.bb_net.specs.Bits.{is_port}
-use Rattle.bb_net.specs.Building.{with_variable, MayClock, IsTooMany}
-use Rattle.bb_print.specs.Drafting.{may_follow}
+use Rattle.bb_net.specs.Building.{with_variable, IsTooMany}
 use Rattle.bb_print.specs.Faults.{IsWant}
 use Rattle.bb_print.proofs.Declaring.{declared_follows, declared_step, declare_want}
 use Rattle.bb_print.proofs.draft.Draft.declare.Goals as goal

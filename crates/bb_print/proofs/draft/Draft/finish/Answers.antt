@@ -1,4 +1,4 @@
-use Rattle.std.proofs.Common.{◌≡◌, ◌<◌, ◌↔◌, IsSome, ℕ, Err, length, ap, subst, sym, ◌∙◌, rules}
+use Rattle.std.proofs.Common.{◌<◌, ◌↔◌, IsSome, Err, length, ap, subst, sym, ◌∙◌}
 use Rattle.std.proofs.lemmas.Result.{err_from_is_err_and}
 use Rattle.bb_print.specs.Toward.{IsDrawn}
 use Rattle.bb_print.proofs.Draws.{drawn_clocked}

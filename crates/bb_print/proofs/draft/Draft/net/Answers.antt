@@ -1,4 +1,4 @@
-use Rattle.std.proofs.Common.{◌≡◌, ◌+◌, None, Some, Err, length, ap, subst, sym, ◌∙◌, rules}
+use Rattle.std.proofs.Common.{◌≡◌, ◌+◌, Some, Err, length, ap, subst, sym, ◌∙◌}
 use Rattle.std.proofs.lemmas.Result.{err_from_is_err_and}
 use Rattle.bb_net.specs.Building.{with_net, net_limit}
 use Rattle.bb_print.proofs.Drawing.{named_drawn, bit_drawn, clock_drawn, net_draws, net_named, net_want, option_same}

@@ -1,4 +1,4 @@
-use Rattle.std.proofs.Common.{◌≡◌, ◌<◌, ◌∙◌, length, get_or, arith, rules}
+use Rattle.std.proofs.Common.{◌∙◌, length, get_or, arith}
 use Rattle.std.proofs.lemmas.Result.{err_from_is_err_and}
 use Rattle.bb_net.specs.Named.{name_of_net, net_text}
 use Rattle.bb_print.proofs.Drafts.{nets_more}

@@ -1,11 +1,9 @@
-use Rattle.std.proofs.Common.{◌≡◌, ℕ, List, length, map, Err, ap, subst, sym, ◌∙◌, rules, refl}
+use Rattle.std.proofs.Common.{◌≡◌, length, map, Err, ap, ◌∙◌}
 use Rattle.std.proofs.lemmas.Result.{err_from_is_err_and}
-use Rattle.bb_net.specs.declared.net.Op.{Op}
 use Rattle.bb_net.specs.Net.{Gate}
 use Rattle.bb_net.specs.Bits.{Bit}
 use Rattle.bb_net.specs.Named.{name_of_net, net_text}
 use Rattle.bb_net.specs.Building.{with_gate}
-use Rattle.bb_print.specs.Toward.{IsDrawn}
 use Rattle.bb_print.proofs.Drawing.{gate_want, gate_draws, below_more}
 use Rattle.bb_print.proofs.draft.Draft.state.Goals as goal
 
