@@ -1,0 +1,13 @@
+pub mod Rows
+pub mod Keys
+pub mod SaidLaws
+pub mod TableLaws
+pub mod CellLaws
+pub mod SizeLaws
+pub mod TextLaws
+pub mod Parted
+pub mod Operators
+pub mod Expressions
+pub mod Assigns
+pub mod Instances
+pub mod Counting

@@ -1,0 +1,89 @@
+-- Which bits are nets, what drives them, and how faults name them.
+use Rattle.std.specs.Prelude.{ℕ, suc, ◌+◌, ◌-◌, Bool, not, ◌||◌, nat_eq, nat_lt, List, [], ◌∷◌, ◌++◌, map, length, take, filter, find, flat_map, count_by, codes, Option, None, if◌then◌else◌, decimal}
+use Rattle.std.specs.List.{list_any, range_with_len}
+use Rattle.std.specs.Option.{option_map}
+use Rattle.std.specs.Str.{bytes_eq}
+use Rattle.bb_net.specs.Bits.{Entry, Bit, bit_of, range_width, is_input, is_output}
+use Rattle.bb_net.specs.declared.variable.Role.{Role}
+use Rattle.bb_net.specs.declared.variable.Role.TheVariants.{Wire}
+use Rattle.bb_net.specs.declared.variable.BitName.{BitName}
+use Rattle.bb_elab.specs.declared.fault.ElabFault.{ElabFault}
+use Rattle.bb_elab.specs.declared.fault.ElabFault.TheVariants.{TwoDrivers, Undriven}
+use Rattle.bb_elab.specs.Variables.{bit_count}
+use Rattle.bb_elab.specs.Making.{Work}
+
+-- made variables --------------------------------------------------------
+
+abbrev pub made_count : List Entry → Work → ℕ
+made_count table w = w.fresh - bit_count table
+
+abbrev pub is_variable : List Entry → List ℕ → Bool
+is_variable table name = list_any (λ v. bytes_eq name v.0) table
+
+abbrev pub made_name : ℕ → List ℕ
+made_name k = codes "bt_w" ++ decimal k
+
+-- the first so many names bt_w<k>, with k from 0, that are no variables
+abbrev pub made_names : List Entry → ℕ → List (List ℕ)
+made_names table count = take count (filter (λ n. not (is_variable table n)) (map made_name (range_with_len 0 (count + length table))))
+
+abbrev pub made_variable : List ℕ → Entry
+made_variable name = (name, record { range = None; role = Wire })
+
+-- the text's variables, then a scalar wire for each made net
+abbrev pub all_variables : List Entry → Work → List Entry
+all_variables table w = table ++ map made_variable (made_names table (made_count table w))
+
+-- bits ------------------------------------------------------------------
+
+-- the numbers of the bits of the variables whose role passes, where the first variable's bits begin at this number
+abbrev pub bits_from : (Role → Bool) → ℕ → List Entry → List ℕ
+bits_from passes first [] = []
+bits_from passes first (v ∷ vs) =
+    (if passes v.1.role then range_with_len first (range_width v.1.range) else []) ++ bits_from passes (first + range_width v.1.range) vs
+
+abbrev pub input_bits : List Entry → List ℕ
+input_bits table = bits_from is_input 0 table
+
+abbrev pub output_bits : List Entry → List ℕ
+output_bits table = bits_from is_output 0 table
+
+-- the bits that are driven, one entry a driver; an input bit has one by itself
+abbrev pub driven : List Entry → Work → List ℕ
+driven table w = input_bits table ++ (map (λ g. g.out) w.gates ++ map (λ f. f.q) w.flops)
+
+-- the bits that are read: by the outside, gates, d pins and clock pins
+abbrev pub read : List Entry → Work → List ℕ
+read table w = output_bits table ++ (flat_map (λ g. g.ins) w.gates ++ (map (λ f. f.d) w.flops ++ map (λ f. f.clock) w.flops))
+
+abbrev pub has_bit : List ℕ → ℕ → Bool
+has_bit bits b = list_any (nat_eq b) bits
+
+-- the nets in their order: a bit is one where it is driven or read
+abbrev pub nets : List Entry → Work → List ℕ
+nets table w = filter (λ b. has_bit (driven table w) b || has_bit (read table w) b) (range_with_len 0 w.fresh)
+
+-- names of bits ---------------------------------------------------------
+
+-- the variable and the place of the bit of this number, where the first variable has that number
+abbrev pub bit_name : ℕ → List Entry → ℕ → BitName
+bit_name number [] b = record { variable = number; place = b }
+bit_name number (v ∷ vs) b = if nat_lt b (range_width v.1.range) then record { variable = number; place = b } else bit_name (suc number) vs (b - range_width v.1.range)
+
+-- how texts name the bit of this number
+abbrev pub named : List Entry → Work → ℕ → Bit
+named table w b = bit_of (all_variables table w) (bit_name 0 (all_variables table w) b)
+
+-- the fault of the first net that the test finds
+abbrev pub first_net : (List ℕ → Option ℕ → ElabFault) → (ℕ → Bool) → List Entry → Work → Option ElabFault
+first_net fault test table w = option_map (λ b. fault (named table w b).name (named table w b).index) (find test (nets table w))
+
+-- faults ----------------------------------------------------------------
+
+-- the fault of a net with two drivers
+abbrev pub two_drivers : List Entry → Work → Option ElabFault
+two_drivers table w = first_net TwoDrivers (λ b. nat_lt 1 (count_by (nat_eq b) (driven table w))) table w
+
+-- and of one without any
+abbrev pub undriven : List Entry → Work → Option ElabFault
+undriven table w = first_net Undriven (λ b. not (has_bit (driven table w) b)) table w
