@@ -1,9 +1,18 @@
 -- how a call ends, from what was prepared and written
-use Rattle.std.proofs.Common.{◌≡◌, ℕ, ◌≤◌, List, length, Option, Some, ap, ◌∙◌, subst}
+use Rattle.std.proofs.Common.{◌≡◌, ℕ, ◌≤◌, List, length, Option, Some, ap, sym, ◌∙◌, subst, arith}
 use Rattle.bb_edge.specs.Told.{Told, Held, Shows, SameBut, KeepsOrStarts, AppendsFront}
 use Rattle.bb_top.specs.Words.{Command, command_of, output_name}
-use Rattle.bb_top.specs.Reads.{IsMade}
-use Rattle.bb_top.specs.Ends.{Refusal, refusal_line, IsRefused, IsUnwritten, IsUnsaid, Refused, Done, done_line, file_limit}
+use Rattle.bb_top.specs.Reads.{IsMade, IsReadable}
+use Rattle.bb_net.specs.Named.{Named, design_of}
+use Rattle.bb_print.specs.Canonical.{canonical_text}
+use Rattle.bb_print.specs.Grammatical.{IsGrammatical}
+use Rattle.bb_print.specs.Limits.{IsNumbered}
+use Rattle.bb_top.specs.declared.refusal.Refusal.{Refusal}
+use Rattle.bb_top.specs.declared.refusal.Refusal.TheVariants as refusals
+use Rattle.bb_top.specs.declared.text.TextFault.{TextFault}
+use Rattle.bb_top.specs.Texts.{IsBroken}
+use Rattle.bb_top.proofs.FewLemmas.{numbered}
+use Rattle.bb_top.specs.Ends.{refusal_line, IsRefused, IsUnwritten, IsUnsaid, Refused, Done, done_line, file_limit}
 
 -- every other name is as it was
 pub others_same : (old mid new : List ℕ → Told) (name output : List ℕ) → mid ≡ old → name ≡ output → SameBut name mid new → SameBut output old new
@@ -47,3 +56,16 @@ unsaid_done words old mid new told_old told_new c name made meant same n others 
   };
   line = line;
 }
+
+-- a text that is read has no refusal
+pub refused_unreadable :
+    (unbroken : (text : List ℕ) (fault : TextFault) → IsGrammatical text → IsBroken text fault → ⊥) (canonical : (a : Named) → IsNumbered a → IsGrammatical (canonical_text (design_of a)))
+    (refusal : Refusal) (text : List ℕ) (a : Named) → IsRefused refusal text → length text ≤ file_limit → IsReadable a text → ⊥
+refused_unreadable unbroken canonical refusals.TooLong text a refused small r = omega (arith, refused, small)
+refused_unreadable unbroken canonical (refusals.Broken fault) text a refused small r =
+    unbroken text fault (subst IsGrammatical (sym r.spelled) (canonical a (numbered a r.named r.few))) refused.1
+refused_unreadable unbroken canonical refusals.NotRead text a refused small r = refused.2 a r
+
+-- one command is meant
+pub same_command : (words : List (List ℕ)) (c d : Command) → command_of words ≡ Some c → command_of words ≡ Some d → c ≡ d
+same_command words c d one other = cc (one, other)

@@ -13,3 +13,5 @@ pub mod WriteLemmas
 pub mod BitLemmas
 pub mod EndLemmas
 pub mod FewLemmas
+pub mod TextLemmas
+pub mod FlawLemmas

@@ -7,3 +7,5 @@ pub mod Woven
 pub mod Words
 pub mod Reads
 pub mod Ends
+pub mod Texts
+pub mod TextReading

@@ -2,9 +2,13 @@ ghost use Rattle.std.specs.Prelude.{◌≡◌, ◌↔◌, ◌<◌, ◌^◌, IfOk
 ghost use Rattle.bb_net.specs.Bits.{range_width, IsRange};
 ghost use Rattle.bb_net.specs.Named.{Named, IsNamed};
 ghost use Rattle.bb_top.specs.Reads.{begins_bt, IsFresh, IsFew, IsReadable, IsMade};
+ghost use Rattle.bb_print.specs.Grammatical.{IsGrammatical};
+ghost use Rattle.bb_top.specs.Texts.{IsBroken};
+ghost use Rattle.bb_top.specs.declared.text.TextFault.{TextFault as FaultValue};
 ghost use Rattle.bb_top.specs.declared.make.MakeFault.TheVariants.{NoMemory};
 
 use crate::laws::runs_alike;
+use crate::text::{TextFault, flaw_in};
 use crate::thin::weave_thin;
 use bb_net::{Name, Named as NamedNetlist};
 use bb_print::{CanonFault, print, read_canonical};
@@ -16,6 +20,7 @@ const BIT_LIMIT: u64 = 2_097_152;
 /// Why nothing is made of a text.
 #[derive(Clone, Copy, Debug, PartialEq, Eq)]
 pub(crate) enum MakeFault {
+    Broken(TextFault),
     NotRead,
     NoMemory,
 }
@@ -82,6 +87,7 @@ fn is_few(named: &NamedNetlist) -> bool
 fn read_netlist(alloc: Global, text: &[u8]) -> Result<NamedNetlist, MakeFault>
     ensures read { IfOk result (λ named. IsReadable named text.now) }
     ensures refused { IsErrOf result MakeFault.NotRead → (a : Named) → IsReadable a text.now → ⊥ }
+    ensures only { (fault : FaultValue) → IsErrOf result (MakeFault.Broken fault) → ⊥ }
 {
     let named = match read_canonical(alloc, text) {
         Ok(named) => named,
@@ -99,8 +105,13 @@ fn read_netlist(alloc: Global, text: &[u8]) -> Result<NamedNetlist, MakeFault>
 /// What is made of a text.
 pub(crate) fn make(alloc: Global, text: &[u8]) -> Result<Vec<u8>, MakeFault>
     ensures made { IfOk result (λ made. IsMade text.now made.items) }
+    ensures broken { (fault : FaultValue) → IsErrOf result (MakeFault.Broken fault) → IsBroken text.now fault }
+    ensures grammatical { IsErrOf result MakeFault.NotRead → IsGrammatical text.now }
     ensures refused { IsErrOf result MakeFault.NotRead → (a : Named) → IsReadable a text.now → ⊥ }
 {
+    if let Some(fault) = flaw_in(alloc, text)? {
+        return Err(MakeFault::Broken(fault));
+    }
     let named = read_netlist(alloc, text)?;
     let woven = weave_thin(alloc, &named)?;
     // `variables` ensures that it is a named netlist.

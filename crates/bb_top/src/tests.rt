@@ -74,8 +74,6 @@ fn a_half_adder_gets_a_bypassed_cell_at_each_input(rt: HostRuntime) -> Result<()
 #[test]
 fn a_text_that_is_not_canonical_is_refused(rt: HostRuntime) -> Result<(), TestFail> {
     let rows = [
-        "",
-        "module half (a, b, s, c);\n",
         "module half (a, y);\ninput  a;\noutput y;\nbuf (y, a);\nendmodule\n",
         "module bt_half (a, y);\ninput a;\noutput y;\nbuf (y, a);\nendmodule\n",
         "module half (bt_a, y);\ninput bt_a;\noutput y;\nbuf (y, bt_a);\nendmodule\n",
@@ -88,6 +86,37 @@ fn a_text_that_is_not_canonical_is_refused(rt: HostRuntime) -> Result<(), TestFa
             "refused input: not yet read\n",
             "old",
         )?;
+        assert_eq!(rt; outcome, (1, true, true), "{text:?}");
+    }
+    Ok(())
+}
+
+#[test]
+fn a_text_that_is_no_modules_is_refused_by_its_first_flaw(rt: HostRuntime) -> Result<(), TestFail> {
+    let rows = [
+        ("", "line 1 unreadable"),
+        ("module half (a, b, s, c);\n", "line 2 unreadable"),
+        (
+            "module e (y); output y; assign y = 1'bx; endmodule",
+            "line 1 bad number",
+        ),
+        (
+            "module e (y); output y; assign y = 1'b0;",
+            "line 1 unreadable",
+        ),
+        (
+            "module e (y);\noutput y\nassign y = 1'bx;\nendmodule\n",
+            "line 3 unreadable",
+        ),
+        ("module e (y);\noutput y;\n# assign\n", "line 3 bad byte"),
+        (
+            "module e (y);\n/* output y;\nendmodule\n",
+            "line 2 open comment",
+        ),
+    ];
+    for (text, flaw) in rows {
+        let line = format!(in rt.alloc(); "refused input: {flaw}\n")?;
+        let outcome = compiles(rt.alloc(), text.as_bytes(), line.as_str(), "old")?;
         assert_eq!(rt; outcome, (1, true, true), "{text:?}");
     }
     Ok(())

@@ -5,13 +5,17 @@ ghost use Rattle.bb_edge.specs.Causes.{Rose};
 ghost use Rattle.bb_edge.specs.Told.{Held, AppendsAll};
 ghost use Rattle.bb_top.specs.Words.{command_of, output_name, Command as CommandValue};
 ghost use Rattle.bb_top.specs.Reads.{IsReadable, IsMade};
-ghost use Rattle.bb_top.specs.Ends.{Refusal, TooLong, NotRead, IsRefused, IsDone, IsRefusal, IsUnwritten, IsUnsaid, file_limit, refusal_line, usage_line, done_line};
+ghost use Rattle.bb_top.specs.declared.refusal.Refusal.{Refusal as RefusalValue};
+ghost use Rattle.bb_top.specs.Ends.{IsRefused, IsDone, IsRefusal, IsUnwritten, IsUnsaid, file_limit, refusal_line, usage_line, done_line};
 
+use crate::laws::one_flaw;
 use crate::make::{MakeFault, make};
 use crate::read::{ReadFault, read_whole};
+use crate::refusal::{Refusal, line_of};
 use crate::words::{Command, command_in};
 use crate::write::write_whole;
 use bb_edge::{Failed, Sink, Store};
+use bb_print::canonical_is_grammatical;
 use std::alloc::Global;
 
 /// The most bytes of the input.
@@ -20,8 +24,7 @@ const FILE_LIMIT: u64 = 67_108_864;
 /// Why nothing is written.
 enum Stop {
     Read,
-    TooLong,
-    NotRead,
+    Refused(Refusal),
     NoMemory,
 }
 
@@ -30,8 +33,7 @@ fn prepare<S: Store>(alloc: Global, store: &mut S, input: &str) -> Result<Vec<u8
     requires { S.may_read input.now }
     ensures made { IfOk result (λ made. (text : List ℕ) → S.holds store.old input.now ≡ Held text → (length text ≤ file_limit) × IsMade text made.items) }
     ensures read { IsErrOf result Stop.Read → Rose (S.read_faults store.old) (S.read_faults store.new) }
-    ensures too_long { IsErrOf result Stop.TooLong → (text : List ℕ) → S.holds store.old input.now ≡ Held text → IsRefused TooLong text }
-    ensures not_read { IsErrOf result Stop.NotRead → (text : List ℕ) → S.holds store.old input.now ≡ Held text → IsRefused NotRead text }
+    ensures refused { (refusal : RefusalValue) → IsErrOf result (Stop.Refused refusal) → (text : List ℕ) → S.holds store.old input.now ≡ Held text → IsRefused refusal text }
     ensures later { S.read_faults store.old ≤ S.read_faults store.new }
     ensures contents { S.holds store.new ≡ S.holds store.old }
     ensures writing { S.writing store.new ≡ S.writing store.old }
@@ -40,12 +42,13 @@ fn prepare<S: Store>(alloc: Global, store: &mut S, input: &str) -> Result<Vec<u8
     let text = match read_whole(alloc, store, input, FILE_LIMIT) {
         Ok(text) => text,
         Err(ReadFault::Read) => return Err(Stop::Read),
-        Err(ReadFault::TooLong) => return Err(Stop::TooLong),
+        Err(ReadFault::TooLong) => return Err(Stop::Refused(Refusal::TooLong)),
         Err(ReadFault::NoMemory) => return Err(Stop::NoMemory),
     };
     match make(alloc, &text) {
         Ok(made) => Ok(made),
-        Err(MakeFault::NotRead) => Err(Stop::NotRead),
+        Err(MakeFault::Broken(fault)) => Err(Stop::Refused(Refusal::Broken(fault))),
+        Err(MakeFault::NotRead) => Err(Stop::Refused(Refusal::NotRead)),
         Err(MakeFault::NoMemory) => Err(Stop::NoMemory),
     }
 }
@@ -61,7 +64,7 @@ pub fn bilbo<S: Store, K: Sink>(alloc: Global, words: &[String], store: &mut S, 
     ensures status { result ≤ 5 }
 
     ensures done { result ≡ 0 → IsDone (map (λ w. string_bytes w) words.now) (S.holds store.old) (S.holds store.new) × AppendsAll (K.told out.old) (K.told out.new) done_line }
-    ensures refused { result ≡ 1 → (refusal : Refusal) × IsRefusal refusal (map (λ w. string_bytes w) words.now) (S.holds store.old)
+    ensures refused { result ≡ 1 → (refusal : RefusalValue) × IsRefusal refusal (map (λ w. string_bytes w) words.now) (S.holds store.old)
         × AppendsAll (K.told out.old) (K.told out.new) (refusal_line refusal) × (S.holds store.new ≡ S.holds store.old) }
     ensures usage { result ≡ 2 → (command_of (map (λ w. string_bytes w) words.now) ≡ None)
         × AppendsAll (K.told out.old) (K.told out.new) usage_line × (S.holds store.new ≡ S.holds store.old) }
@@ -78,9 +81,11 @@ pub fn bilbo<S: Store, K: Sink>(alloc: Global, words: &[String], store: &mut S, 
     ensures complete { (c : CommandValue) (text : List ℕ) (a : Named) → command_of (map (λ w. string_bytes w) words.now) ≡ Some c → S.holds store.old c.input ≡ Held text
         → length text ≤ file_limit → IsReadable a text → (result ≢ 1) × (result ≢ 2) }
     // A text that has a refusal isn't called done.
-    ensures always_refused { (c : CommandValue) (text : List ℕ) (refusal : Refusal) → command_of (map (λ w. string_bytes w) words.now) ≡ Some c → S.holds store.old c.input ≡ Held text
+    ensures always_refused { (c : CommandValue) (text : List ℕ) (refusal : RefusalValue) → command_of (map (λ w. string_bytes w) words.now) ≡ Some c → S.holds store.old c.input ≡ Held text
         → IsRefused refusal text → (result ≢ 0) × (result ≢ 2) }
 {
+    one_flaw();
+    canonical_is_grammatical();
     let Some(Command { input, prefix }) = command_in(words) else {
         return match out.put(b"usage: bilbo compile IN PREFIX\n") {
             Ok(()) => 2,
@@ -91,17 +96,14 @@ pub fn bilbo<S: Store, K: Sink>(alloc: Global, words: &[String], store: &mut S, 
         Ok(made) => made,
         Err(Stop::Read) => return 3,
         Err(Stop::NoMemory) => return 5,
-        Err(Stop::TooLong) => {
-            return match out.put(b"refused input: too long\n") {
-                Ok(()) => 1,
-                Err(Failed) => 4,
+        Err(Stop::Refused(refusal)) => {
+            let Ok(line) = line_of(alloc, refusal) else {
+                return 5;
             };
-        }
-        Err(Stop::NotRead) => {
-            return match out.put(b"refused input: not yet read\n") {
-                Ok(()) => 1,
-                Err(Failed) => 4,
-            };
+            match out.put(line.as_bytes()) {
+                Ok(()) => return 1,
+                Err(_) => return 4,
+            }
         }
     };
     let Ok(name) = format!(in alloc; "{prefix}.v") else {

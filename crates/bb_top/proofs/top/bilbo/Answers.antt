@@ -1,9 +1,10 @@
-use Rattle.std.proofs.Common.{rules, ◌≡◌, sym, subst, refl, inl, inr}
+use Rattle.std.proofs.Common.{rules, ◌≡◌, ◌∙◌, map, Some, string_bytes, ap, sym, subst, refl, inl, inr}
 use Rattle.bb_edge.specs.Causes.{Rose}
-use Rattle.bb_top.specs.Words.{output_name, Command}
-use Rattle.bb_top.specs.Ends.{TooLong, NotRead}
+use Rattle.bb_top.specs.Words.{output_name, command_of, Command}
+use Rattle.bb_edge.specs.Told.{AppendsFront}
+use Rattle.bb_top.specs.Ends.{refusal_line}
 use Rattle.bb_top.specs.Reads.{IsMade}
-use Rattle.bb_top.proofs.EndLemmas.{unsaid_refused, unsaid_done, unwritten}
+use Rattle.bb_top.proofs.EndLemmas.{refused_unreadable, same_command, unsaid_refused, unsaid_done, unwritten}
 use Rattle.bb_top.proofs.top.bilbo.Goals as goal
 
 pub prepare-requires : goal.prepare-requires
@@ -20,31 +21,32 @@ write_whole-requires-clause-may g c =
 
 pub returns-in-Err-put-clause-write : goal.returns-in-Err-put-clause-write
 returns-in-Err-put-clause-write g c = λ _.
+    let line : c.as_bytes.result.now ≡ refusal_line c.in-Err-Refused.refusal = search rules in
     inr (
       c.in-Err-put.ensures.cause.failed,
-      unsaid_refused TooLong _ (g.S.Store.holds c.args.store.now) (g.S.Store.holds c.prepare.new.store) (g.K.Sink.told c.args.out.now) (g.K.Sink.told c.put-in-Err-TooLong.new.self) (record { input = c.in-Some.field-0.input.now; prefix = c.in-Some.field-0.prefix.now })
-          (search rules) (c.in-Err-TooLong.ensures.too_long (search rules)) c.prepare.ensures.contents c.in-Err-put.ensures.front,
+      unsaid_refused c.in-Err-Refused.refusal _ (g.S.Store.holds c.args.store.now) (g.S.Store.holds c.prepare.new.store) (g.K.Sink.told c.args.out.now) (g.K.Sink.told c.put-in-Err-Refused.new.self) (record { input = c.in-Some.field-0.input.now; prefix = c.in-Some.field-0.prefix.now })
+          (search rules) (c.in-Err-Refused.ensures.refused c.in-Err-Refused.refusal (search rules)) c.prepare.ensures.contents
+          (subst (AppendsFront (g.K.Sink.told c.args.out.now) (g.K.Sink.told c.put-in-Err-Refused.new.self)) line c.in-Err-put.ensures.front),
     )
 
-pub returns-in-Ok-put-2-clause-refused : goal.returns-in-Ok-put-2-clause-refused
-returns-in-Ok-put-2-clause-refused g c = λ _. (
-  NotRead,
-  record {
-    command = record { input = c.in-Some.field-0.input.now; prefix = c.in-Some.field-0.prefix.now };
-    meant = search rules;
-    cause = c.in-Err-NotRead.ensures.not_read (search rules);
-  },
-  c.in-Ok-put-2.ensures.all,
-  c.prepare.ensures.contents,
-)
+pub returns-in-Ok-put-clause-complete : goal.returns-in-Ok-put-clause-complete
+returns-in-Ok-put-clause-complete g c = λ d text a meant held small readable.
+    let command : Command = record { input = c.in-Some.field-0.input.now; prefix = c.in-Some.field-0.prefix.now } in
+    let known : command_of (map (λ w. string_bytes w) c.args.words.now) ≡ Some command = search rules in
+    let same : d ≡ command = same_command (map (λ w. string_bytes w) c.args.words.now) d command meant known in
+    let here = ap (λ (k : Command). g.S.Store.holds c.args.store.now k.input) (sym same) ∙ held in
+    let never = refused_unreadable c.one_flaw.ensures.unbroken c.canonical_is_grammatical.ensures c.in-Err-Refused.refusal text a
+    (c.in-Err-Refused.ensures.refused c.in-Err-Refused.refusal (search rules) text here) small readable in
+    absurd never
 
-pub returns-in-Err-put-2-clause-write : goal.returns-in-Err-put-2-clause-write
-returns-in-Err-put-2-clause-write g c = λ _.
-    inr (
-      c.in-Err-put-2.ensures.cause.failed,
-      unsaid_refused NotRead _ (g.S.Store.holds c.args.store.now) (g.S.Store.holds c.prepare.new.store) (g.K.Sink.told c.args.out.now) (g.K.Sink.told c.put-in-Err-NotRead.new.self) (record { input = c.in-Some.field-0.input.now; prefix = c.in-Some.field-0.prefix.now })
-          (search rules) (c.in-Err-NotRead.ensures.not_read (search rules)) c.prepare.ensures.contents c.in-Err-put-2.ensures.front,
-    )
+pub returns-in-Ok-put-2-clause-always_refused : goal.returns-in-Ok-put-2-clause-always_refused
+returns-in-Ok-put-2-clause-always_refused g c = λ d text refusal meant held refused.
+    let command : Command = record { input = c.in-Some.field-0.input.now; prefix = c.in-Some.field-0.prefix.now } in
+    let known : command_of (map (λ w. string_bytes w) c.args.words.now) ≡ Some command = search rules in
+    let same : d ≡ command = same_command (map (λ w. string_bytes w) c.args.words.now) d command meant known in
+    let here = ap (λ (k : Command). g.S.Store.holds c.args.store.now k.input) (sym same) ∙ held in
+    let made = c.in-Ok-prepare.ensures.made text here in
+    absurd (refused_unreadable c.one_flaw.ensures.unbroken c.canonical_is_grammatical.ensures refusal text made.1.original refused made.0 made.1.readable)
 
 pub returns-in-Err-write_whole-clause-write : goal.returns-in-Err-write_whole-clause-write
 returns-in-Err-write_whole-clause-write g c =
@@ -67,9 +69,9 @@ returns-clause-write g c =
     let named : c.as_str.result.now ≡ output_name command = search rules in
     λ _.
     inr (
-      c.in-Err-put-3.ensures.cause.failed,
+      c.in-Err-put-2.ensures.cause.failed,
       unsaid_done _ (g.S.Store.holds c.args.store.now) (g.S.Store.holds c.prepare.new.store) (g.S.Store.holds c.write_whole.new.store) (g.K.Sink.told c.args.out.now) (g.K.Sink.told c.put-2.new.self) command
           c.as_str.result.now c.deref.result.now (search rules) c.in-Ok-prepare.ensures.contents named c.write_whole.ensures.others c.in-Ok-write_whole.ensures.whole
           (λ text h. let m = c.in-Ok-prepare.ensures.made text h in (m.0, subst (IsMade text) (sym c.deref.ensures.value) m.1))
-          c.in-Err-put-3.ensures.front,
+          c.in-Err-put-2.ensures.front,
     )
