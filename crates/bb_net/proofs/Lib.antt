@@ -7,3 +7,11 @@ pub mod VariableLemmas
 pub mod NamedLemmas
 pub mod Renamed
 pub mod DriverLemmas
+pub mod LevelLemmas
+pub mod RankLemmas
+pub mod WorkLemmas
+pub mod Ranked
+pub mod OrderLemmas
+pub mod GateLemmas
+pub mod WalkLemmas
+pub mod CycleLemmas

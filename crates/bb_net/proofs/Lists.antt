@@ -1,6 +1,7 @@
 -- General facts on lists.
-use Rattle.std.proofs.Common.{◌≡◌, ℕ, ◌+◌, ◌<◌, zero, suc, List, [], ◌∷◌, ◌++◌, length, map, take, Some, slice_get, refl, ap, ◌∙◌, arith}
+use Rattle.std.proofs.Common.{◌≡◌, ℕ, ◌+◌, ◌<◌, zero, suc, List, [], ◌∷◌, ◌++◌, length, map, take, drop, Some, slice_get, refl, ap, ◌∙◌, arith, length-drop, append-nil}
 use Rattle.std.proofs.Common.{All}
+use Rattle.std.proofs.Math.Seq.{take-length}
 use Rattle.std.proofs.lemmas.List.Elements.{All-from_recursion, recursion_from_All}
 use Rattle.std.specs.List.{AllByRecursion}
 
@@ -87,3 +88,14 @@ in_back P xs ys h = All-from_recursion P ys (all_back P xs ys (recursion_from_Al
 pub same_map_at : {X Y : Type 0} (f g : X → Y) (P : X → Type 0) → ((x : X) → P x → f x ≡ g x) → (xs : List X) → AllByRecursion P xs → map f xs ≡ map g xs
 same_map_at f g P e [] h = refl
 same_map_at f g P e (x ∷ xs) h = λ i. e x h.0 i ∷ same_map_at f g P e xs h.1 i
+
+-- what a slice of a whole vector is written to is the whole vector after it
+pub whole_written : {X : Type 0} (n : ℕ) (xs new : List X) → n ≡ length xs → length new ≡ length xs → take n (new ++ drop (length new) xs) ≡ new
+whole_written n xs new count long =
+    let none : drop (length new) xs ≡ [] = nothing (drop (length new) xs) (omega (arith, length-drop (length new) xs)) in
+    let all : n ≡ length new = omega (arith, count, long) in
+    ap (λ ks. take n (new ++ ks)) none ∙ ap (take n) (append-nil new) ∙ ap (λ k. take k new) all ∙ take-length new
+  where
+    nothing : {X : Type 0} (ys : List X) → length ys ≡ 0 → ys ≡ []
+    nothing [] h = refl
+    nothing (y ∷ ys) h = absurd (omega (arith, h))

@@ -6,3 +6,5 @@ pub mod Bits
 pub mod Named
 pub mod Building
 pub mod Drivers
+pub mod Order
+pub mod Levels

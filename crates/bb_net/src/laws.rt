@@ -1,7 +1,8 @@
 //! Laws about netlists, as contracts of functions without a body.
 
-ghost use Rattle.std.specs.Prelude.{◌↔◌, ℕ, List, Bool, map};
-ghost use Rattle.bb_net.specs.Net.{Netlist, renamed};
+ghost use Rattle.std.specs.Prelude.{◌≡◌, ◌↔◌, ◌<◌, ℕ, List, Bool, map, Some, slice_get};
+ghost use Rattle.bb_net.specs.Net.{Gate as GateValue, Netlist, renamed};
+ghost use Rattle.bb_net.specs.Order.{IsOrder, IsCycle, ReadsGate};
 ghost use Rattle.bb_net.specs.Run.{IsRun};
 ghost use Rattle.bb_net.specs.Bits.{Bit};
 
@@ -9,4 +10,10 @@ ghost use Rattle.bb_net.specs.Bits.{Bit};
 pub fn runs_by_name()
     ensures { (f : ℕ → Bit) (n : Netlist ℕ) (s : List Bool) (is : List (List Bool)) (vs : List (Bit → Bool))
         → IsRun (renamed f n) s is vs ↔ IsRun n s is (map (λ v net. v (f net)) vs) }
+{}
+
+/// In an order each gate comes after those that drive its inputs, and gates with an order form no cycle.
+pub fn orders_follow_drivers()
+    ensures after { (gates : List (GateValue ℕ)) (order : List ℕ) (i j reader driver : ℕ) → IsOrder gates order → slice_get order i ≡ Some reader → slice_get order j ≡ Some driver → ReadsGate gates reader driver → j < i }
+    ensures no_cycle { (gates : List (GateValue ℕ)) (order nets : List ℕ) → IsOrder gates order → IsCycle gates nets → ⊥ }
 {}
