@@ -1,10 +1,12 @@
 -- Worked modules, computed from the definition.
-use Rattle.std.specs.Prelude.{◌≡◌, ℕ, List, [], ◌∷◌, ◌++◌, codes, Option, Some, None, refl, true, false}
+use Rattle.std.proofs.Common.{arith, ap, sym, subst}
+use Rattle.std.specs.Prelude.{◌≡◌, ◌≢◌, ℕ, zero, suc, ◌<◌, Bool, ◌&&◌, List, [], ◌∷◌, ◌++◌, codes, Option, Some, None, refl, true, false, AllPairs, slice_get}
 use Rattle.bb_net.specs.declared.net.Op.{Op}
 use Rattle.bb_net.specs.declared.net.Op.TheVariants as op
 use Rattle.bb_net.specs.declared.variable.Role.{Role}
 use Rattle.bb_net.specs.declared.variable.Role.TheVariants.{Input, Output, Wire}
 use Rattle.bb_net.specs.Net.{Gate, Netlist}
+use Rattle.bb_net.specs.Order.{is_within, IsStuck, IsFirstStuck}
 use Rattle.bb_parse.specs.declared.syntax.Module.{Module}
 use Rattle.bb_parse.specs.declared.syntax.Header.TheVariants.{Plain, Ansi}
 use Rattle.bb_parse.specs.declared.syntax.Item.{Item}
@@ -16,8 +18,7 @@ use Rattle.bb_parse.specs.declared.syntax.Step.TheVariants as step
 use Rattle.bb_elab.specs.declared.fault.ElabFault.{ElabFault}
 use Rattle.bb_elab.specs.declared.fault.ElabFault.TheVariants.{Reserved, Redeclared, BadPort, TooMany, UnknownCell, BadPins, BadSelect, WidthDiffers, TooWide, TwoDrivers, Undriven, ClockNotInput, TwoClocks, ClockAsData, Loop}
 use Rattle.bb_elab.specs.Text.{text_fault}
-use Rattle.bb_elab.specs.Outcome.{fault_of, denoted}
-use Rattle.bb_elab.specs.Order.{order_of}
+use Rattle.bb_elab.specs.Outcome.{IsLooped, first_fault, denoted}
 
 abbrev declared : ℕ → Role → Option (ℕ × ℕ) → List ℕ → Decl
 declared line role range name = record { line = line; role = role; range = range; name = name }
@@ -59,20 +60,59 @@ bad items =
       items = decl Input (codes "clk") ∷ decl Input (codes "a") ∷ decl Output (codes "y") ∷ items;
     }
 
-reserved_wire : fault_of false (bad (decl Wire (codes "bt_x") ∷ not_p ∷ not_p ∷ tail (codes "u") (codes "clk"))) ≡ Some (Reserved (codes "bt_x") None)
+reserved_wire : first_fault false (bad (decl Wire (codes "bt_x") ∷ not_p ∷ not_p ∷ tail (codes "u") (codes "clk"))) ≡ Some (Reserved (codes "bt_x") None)
 reserved_wire = refl
 
-second_driver : fault_of false (bad (not_p ∷ not_p ∷ tail (codes "u") (codes "clk"))) ≡ Some (TwoDrivers (codes "p") None)
+second_driver : first_fault false (bad (not_p ∷ not_p ∷ tail (codes "u") (codes "clk"))) ≡ Some (TwoDrivers (codes "p") None)
 second_driver = refl
 
-no_driver : fault_of false (bad (not_p ∷ tail (codes "u") (codes "clk"))) ≡ Some (Undriven (codes "u") None)
+no_driver : first_fault false (bad (not_p ∷ tail (codes "u") (codes "clk"))) ≡ Some (Undriven (codes "u") None)
 no_driver = refl
 
-data_clock : fault_of false (bad (not_p ∷ tail (codes "a") (codes "clk"))) ≡ Some (ClockAsData (codes "clk") None)
+data_clock : first_fault false (bad (not_p ∷ tail (codes "a") (codes "clk"))) ≡ Some (ClockAsData (codes "clk") None)
 data_clock = refl
 
-own_loop : fault_of false (bad (not_p ∷ tail (codes "a") (codes "a"))) ≡ Some (Loop (codes "l") None 1)
-own_loop = refl
+no_fault_but_a_loop : first_fault false (bad (not_p ∷ tail (codes "a") (codes "a"))) ≡ None
+no_fault_but_a_loop = refl
+
+-- a gate that reads what it drives: the nets but the clock are a, y, p, l, q
+abbrev own_gates : List (Gate ℕ)
+own_gates = gate op.Not 2 (0 ∷ []) ∷ gate op.And 1 (2 ∷ 0 ∷ []) ∷ gate op.And 3 (3 ∷ 0 ∷ []) ∷ []
+
+own_stuck : IsStuck own_gates 3
+own_stuck zero = refl
+own_stuck (suc k) = ap (λ b. (b && (is_within own_gates k 0 && true)) && true) (own_stuck k)
+
+own_least : (m : ℕ) → m < 3 → IsStuck own_gates m → ⊥
+own_least zero small stuck = cc (stuck 2)
+own_least (suc zero) small stuck = cc (stuck 2)
+own_least (suc (suc zero)) small stuck = cc (stuck 2)
+own_least (suc (suc (suc m))) small stuck = omega (arith, small)
+
+own_next : IsFirstStuck own_gates 3 3
+own_next = record {
+  gate = gate op.And 3 (3 ∷ 0 ∷ []);
+  stands = (2, omega arith, refl);
+  drives = refl;
+  place = 0;
+  reads = refl;
+  stuck = own_stuck;
+  first = λ q m less at stuck. omega (arith, less);
+}
+
+own_loop : IsLooped (bad (not_p ∷ tail (codes "a") (codes "a"))) (Loop (codes "l") None 1)
+own_loop = record {
+  nets = 3 ∷ [];
+  is_loop = record {
+    before = [];
+    first = 3;
+    start = record { stuck = own_stuck; least = own_least };
+    walk = own_next;
+    again = refl;
+    met_once = λ i j d less small. omega (arith, less, small);
+  };
+  fault_is = refl;
+}
 
 -- vectors of both directions ------------------------------------------------
 
@@ -89,7 +129,7 @@ mixed b =
           ∷ [];
     }
 
-mixed_fine : fault_of false (mixed (whole (codes "b"))) ≡ None
+mixed_fine : first_fault false (mixed (whole (codes "b"))) ≡ None
 mixed_fine = refl
 
 mixed_gates :
@@ -99,7 +139,7 @@ mixed_gates :
     ∷ gate op.And 19 (0 ∷ 14 ∷ []) ∷ gate op.And 20 (16 ∷ 15 ∷ []) ∷ gate op.Or 8 (19 ∷ 20 ∷ []) ∷ []
 mixed_gates = refl
 
-against_direction : fault_of false (mixed (part (codes "b") 1 0)) ≡ Some (BadSelect 6)
+against_direction : first_fault false (mixed (part (codes "b") 1 0)) ≡ Some (BadSelect 6)
 against_direction = refl
 
 -- a small known benchmark, by primitives and by cells -------------------------
@@ -151,10 +191,10 @@ by_cells =
     ∷ cell (codes "$_NOR_") (codes "G12") (codes "G1") (codes "G7") ∷ cell (codes "$_NOR_") (codes "G13") (codes "G2") (codes "G12")
     ∷ decl Wire (codes "u.clk") ∷ item.Assign 1 (record { name = codes "u.clk"; select = None } ∷ []) (ref (codes "clk")) ∷ []
 
-prims_fine : fault_of false (s27 by_prims) ≡ None
+prims_fine : first_fault false (s27 by_prims) ≡ None
 prims_fine = refl
 
-cells_fine : fault_of false (s27 by_cells) ≡ None
+cells_fine : first_fault false (s27 by_cells) ≡ None
 cells_fine = refl
 
 abbrev s27_gates : List (Gate ℕ)
@@ -170,9 +210,6 @@ prims_denoted = refl
 
 cells_denoted : (denoted (s27 by_cells)).netlist ≡ s27_netlist
 cells_denoted = refl
-
-s27_order : order_of s27_gates ≡ 0 ∷ 8 ∷ 2 ∷ 9 ∷ 3 ∷ 4 ∷ 5 ∷ 7 ∷ 1 ∷ 6 ∷ []
-s27_order = refl
 
 s27_clock : (denoted (s27 by_cells)).clock ≡ Some (record { variable = 0; place = 0 })
 s27_clock = refl
@@ -252,23 +289,116 @@ flop k q d = item.Cell 1 (codes "dff") (Places (ref k ∷ ref q ∷ ref d ∷ []
 
 -- the least failing clock pin is named, not the first flip-flop's
 least_pin :
-    fault_of false (ports (decl Wire (codes "p") ∷ decl Wire (codes "z") ∷ flop (codes "z") (codes "x") (codes "a") ∷ flop (codes "p") (codes "y") (codes "a")
+    first_fault false (ports (decl Wire (codes "p") ∷ decl Wire (codes "z") ∷ flop (codes "z") (codes "x") (codes "a") ∷ flop (codes "p") (codes "y") (codes "a")
     ∷ item.Prim 1 op.Not (ref (codes "p") ∷ ref (codes "z") ∷ ref (codes "c") ∷ []) ∷ [])) ≡ Some (ClockNotInput (codes "p") None)
 least_pin = refl
 
 -- a ring of Buf gates behind a clock pin is no loop
 ring :
-    fault_of false (ports (flop (codes "p") (codes "x") (codes "a") ∷ item.Prim 1 op.Buf (ref (codes "p") ∷ ref (codes "q") ∷ []) ∷ item.Prim 1 op.Buf (ref (codes "q") ∷ ref (codes "p") ∷ []) ∷ y_is (ref (codes "c")) ∷ [])) ≡
+    first_fault false (ports (flop (codes "p") (codes "x") (codes "a") ∷ item.Prim 1 op.Buf (ref (codes "p") ∷ ref (codes "q") ∷ []) ∷ item.Prim 1 op.Buf (ref (codes "q") ∷ ref (codes "p") ∷ []) ∷ y_is (ref (codes "c")) ∷ [])) ≡
     Some (ClockNotInput (codes "p") None)
 ring = refl
 
 -- the first flip-flop's clock, and the first other one by flip-flops
-three_clocks : fault_of false (ports (flop (codes "k") (codes "x") (codes "a") ∷ flop (codes "c") (codes "y") (codes "a") ∷ flop (codes "a") (codes "z") (codes "a") ∷ [])) ≡ Some (TwoClocks (codes "k", None) (codes "c", None))
+three_clocks : first_fault false (ports (flop (codes "k") (codes "x") (codes "a") ∷ flop (codes "c") (codes "y") (codes "a") ∷ flop (codes "a") (codes "z") (codes "a") ∷ [])) ≡ Some (TwoClocks (codes "k", None) (codes "c", None))
 three_clocks = refl
 
 -- a clock that goes through Buf to an output
-copied_clock : fault_of false (ports (flop (codes "k") (codes "x") (codes "a") ∷ y_is (ref (codes "k")) ∷ [])) ≡ Some (ClockAsData (codes "y") None)
+copied_clock : first_fault false (ports (flop (codes "k") (codes "x") (codes "a") ∷ y_is (ref (codes "k")) ∷ [])) ≡ Some (ClockAsData (codes "y") None)
 copied_clock = refl
+
+-- a loop that is entered from outside: p reads q, q reads r, r reads q; the nets are the ports and then p, q, r
+abbrev entered : Module
+entered = ports (two op.And (codes "p") (codes "a") (codes "q") ∷ item.Prim 1 op.Buf (ref (codes "q") ∷ ref (codes "r") ∷ []) ∷ item.Prim 1 op.Not (ref (codes "r") ∷ ref (codes "q") ∷ []) ∷ both_driven)
+
+entered_fine : first_fault false entered ≡ None
+entered_fine = refl
+
+abbrev entered_gates : List (Gate ℕ)
+entered_gates = gate op.And 5 (0 ∷ 6 ∷ []) ∷ gate op.Buf 6 (7 ∷ []) ∷ gate op.Not 7 (6 ∷ []) ∷ gate op.Buf 3 (0 ∷ []) ∷ gate op.Buf 4 (1 ∷ []) ∷ []
+
+ring_stuck : (k : ℕ) → (is_within entered_gates k 6 ≡ false) × (is_within entered_gates k 7 ≡ false)
+ring_stuck zero = (refl, refl)
+ring_stuck (suc k) = (ap (λ b. (b && true) && true) (ring_stuck k).1, ap (λ b. (b && true) && true) (ring_stuck k).0)
+
+entry_stuck : IsStuck entered_gates 5
+entry_stuck zero = refl
+entry_stuck (suc k) = go (is_within entered_gates k 0) (is_within entered_gates k 6) (ring_stuck k).0
+  where
+    go : (a b : Bool) → b ≡ false → ((a && (b && true)) && true) ≡ false
+    go true b h = ap (λ b. (b && true) && true) h
+    go false b h = refl
+
+entry_least : (m : ℕ) → m < 5 → IsStuck entered_gates m → ⊥
+entry_least zero small stuck = cc (stuck 1)
+entry_least (suc zero) small stuck = cc (stuck 1)
+entry_least (suc (suc zero)) small stuck = cc (stuck 1)
+entry_least (suc (suc (suc zero))) small stuck = cc (stuck 1)
+entry_least (suc (suc (suc (suc zero)))) small stuck = cc (stuck 1)
+entry_least (suc (suc (suc (suc (suc m))))) small stuck = omega (arith, small)
+
+-- p reads a before q
+entry_next : IsFirstStuck entered_gates 5 6
+entry_next = record {
+  gate = gate op.And 5 (0 ∷ 6 ∷ []);
+  stands = (0, omega arith, refl);
+  drives = refl;
+  place = 1;
+  reads = refl;
+  stuck = λ k. (ring_stuck k).0;
+  first = not_a;
+}
+  where
+    not_a : (q m : ℕ) → q < 1 → slice_get (0 ∷ 6 ∷ []) q ≡ Some m → IsStuck entered_gates m → ⊥
+    not_a zero m less at stuck = let here : 0 ≡ m = cc at in cc (subst (λ n. is_within entered_gates 0 n ≡ false) (sym here) (stuck 0))
+    not_a (suc q) m less at stuck = omega (arith, less)
+
+ring_next : IsFirstStuck entered_gates 6 7
+ring_next = record {
+  gate = gate op.Buf 6 (7 ∷ []);
+  stands = (1, omega arith, refl);
+  drives = refl;
+  place = 0;
+  reads = refl;
+  stuck = λ k. (ring_stuck k).1;
+  first = λ q m less at stuck. omega (arith, less);
+}
+
+ring_back : IsFirstStuck entered_gates 7 6
+ring_back = record {
+  gate = gate op.Not 7 (6 ∷ []);
+  stands = (2, omega arith, refl);
+  drives = refl;
+  place = 0;
+  reads = refl;
+  stuck = λ k. (ring_stuck k).0;
+  first = λ q m less at stuck. omega (arith, less);
+}
+
+met_once : AllPairs {X = ℕ} (λ a b. a ≢ b) (5 ∷ 6 ∷ 7 ∷ [])
+met_once i zero d less small same = omega (arith, less)
+met_once zero (suc zero) d less small same = omega (arith, same)
+met_once zero (suc (suc zero)) d less small same = omega (arith, same)
+met_once (suc zero) (suc zero) d less small same = omega (arith, less)
+met_once (suc zero) (suc (suc zero)) d less small same = omega (arith, same)
+met_once (suc (suc i)) (suc zero) d less small same = omega (arith, less)
+met_once (suc (suc i)) (suc (suc zero)) d less small same = omega (arith, less)
+met_once i (suc (suc (suc j))) d less small same = omega (arith, small)
+
+-- the loop begins where it is entered
+entered_loop : IsLooped entered (Loop (codes "q") None 2)
+entered_loop = record {
+  nets = 6 ∷ 7 ∷ [];
+  is_loop = record {
+    before = 5 ∷ [];
+    first = 6;
+    start = record { stuck = entry_stuck; least = entry_least };
+    walk = (entry_next, (ring_next, ring_back));
+    again = refl;
+    met_once = met_once;
+  };
+  fault_is = refl;
+}
 
 -- one bit of a vector as the clock, another as data
 vector_clock :
@@ -278,12 +408,6 @@ vector_clock :
       items = item.Cell 1 (codes "dff") (Places ((part (codes "k") 1 1 ∷ []) ∷ ref (codes "y") ∷ (part (codes "k") 0 0 ∷ []) ∷ [])) ∷ [];
     })).netlist ≡ record { inputs = 0 ∷ []; outputs = 1 ∷ []; gates = []; flops = record { q = 1; d = 0 } ∷ [] }
 vector_clock = refl
-
--- a loop that is entered from outside: p reads q, q reads r, r reads q
-entered :
-    fault_of false (ports (two op.And (codes "p") (codes "a") (codes "q") ∷ item.Prim 1 op.Buf (ref (codes "q") ∷ ref (codes "r") ∷ []) ∷ item.Prim 1 op.Not (ref (codes "r") ∷ ref (codes "q") ∷ []) ∷ both_driven)) ≡
-    Some (Loop (codes "q") None 2)
-entered = refl
 
 -- names and declarations ------------------------------------------------------
 
@@ -310,10 +434,10 @@ in_unknown : says [] (item.Cell 3 (codes "bt_cell") (Pins ((codes "bt_pin", Some
 in_unknown = refl
 
 -- a port may be declared wire too, with the same range
-port_wire : fault_of false (ports (decl Wire (codes "y") ∷ both_driven)) ≡ None
+port_wire : first_fault false (ports (decl Wire (codes "y") ∷ both_driven)) ≡ None
 port_wire = refl
 
-other_range : fault_of false (ports (ranged Wire 0 0 (codes "y") ∷ both_driven)) ≡ Some (Redeclared (codes "y") None)
+other_range : first_fault false (ports (ranged Wire 0 0 (codes "y") ∷ both_driven)) ≡ Some (Redeclared (codes "y") None)
 other_range = refl
 
 two_wires : says a_b (both_in ++ decl Wire (codes "w") ∷ decl Wire (codes "w") ∷ []) (Some (Redeclared (codes "w") None))
@@ -329,7 +453,7 @@ second_place = refl
 no_direction : says (codes "a" ∷ codes "b" ∷ codes "a" ∷ []) (decl Input (codes "a") ∷ decl Wire (codes "b") ∷ []) (Some (BadPort (codes "b") None))
 no_direction = refl
 
-stray : fault_of false (ports (decl Input (codes "z") ∷ both_driven)) ≡ Some (BadPort (codes "z") None)
+stray : first_fault false (ports (decl Input (codes "z") ∷ both_driven)) ≡ Some (BadPort (codes "z") None)
 stray = refl
 
 -- the limit, and one bit more

@@ -1,5 +1,6 @@
 -- The clock: the input bit that feeds every clock pin through Buf gates alone.
 use Rattle.std.specs.Prelude.{ℕ, nat_eq, zero, suc, Bool, true, false, not, ◌&&◌, List, [], ◌∷◌, ◌++◌, map, length, find, flat_map, Option, Some, None, if◌then◌else◌}
+use Rattle.std.specs.Option.{option_or}
 use Rattle.bb_net.specs.declared.net.Op.{Op}
 use Rattle.bb_net.specs.declared.net.Op.TheVariants as op
 use Rattle.bb_net.specs.Net.{Gate}
@@ -48,17 +49,17 @@ clock_pins w = map (λ f. f.clock) w.flops
 
 -- the fault of the first net of a clock pin that no input feeds
 abbrev pub clock_not_input : List Entry → Work → Option ElabFault
-clock_not_input table w = first_net ClockNotInput (λ b. has_bit (clock_pins w) b && not (has_bit (input_bits table) (origin w b))) table w
+clock_not_input vars w = first_net ClockNotInput (λ b. has_bit (clock_pins w) b && not (has_bit (input_bits vars) (origin w b))) vars w
 
 abbrev pub clocks_fault : List Entry → Work → List ℕ → Option ElabFault
-clocks_fault table w [] = None
-clocks_fault table w (first ∷ others) =
+clocks_fault vars w [] = None
+clocks_fault vars w (first ∷ others) =
     on_some (find (λ b. not (nat_eq first b)) others) None
-    (λ second. Some (TwoClocks ((named table w first).name, (named table w first).index) ((named table w second).name, (named table w second).index)))
+    (λ second. Some (TwoClocks ((named vars first).name, (named vars first).index) ((named vars second).name, (named vars second).index)))
 
 -- the fault of the first flip-flop's clock and the first other one, by flip-flops
 abbrev pub two_clocks : List Entry → Work → Option ElabFault
-two_clocks table w = clocks_fault table w (map (origin w) (clock_pins w))
+two_clocks vars w = clocks_fault vars w (map (origin w) (clock_pins w))
 
 -- the clock, where there is a flip-flop
 abbrev pub clock_of : Work → Option ℕ
@@ -70,8 +71,12 @@ is_clock w b = on_some (clock_of w) false (λ clock. nat_eq clock (origin w b))
 
 -- what is read as data: by the outside, by gates other than Buf, and by d pins
 abbrev pub read_as_data : List Entry → Work → List ℕ
-read_as_data table w = output_bits table ++ (flat_map (λ g. if is_buf g.op then [] else g.ins) w.gates ++ map (λ f. f.d) w.flops)
+read_as_data vars w = output_bits vars ++ (flat_map (λ g. if is_buf g.op then [] else g.ins) w.gates ++ map (λ f. f.d) w.flops)
 
 -- the fault of the first net of the clock that is read so
 abbrev pub clock_as_data : List Entry → Work → Option ElabFault
-clock_as_data table w = first_net ClockAsData (λ b. is_clock w b && has_bit (read_as_data table w) b) table w
+clock_as_data vars w = first_net ClockAsData (λ b. is_clock w b && has_bit (read_as_data vars w) b) vars w
+
+-- the first fault of clocks
+abbrev pub clock_fault : List Entry → Work → Option ElabFault
+clock_fault vars w = option_or (clock_not_input vars w) (option_or (two_clocks vars w) (clock_as_data vars w))

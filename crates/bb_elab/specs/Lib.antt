@@ -10,9 +10,15 @@ pub mod Text
 pub mod Making
 pub mod Nets
 pub mod Clock
-pub mod Order
+pub mod Makes
+pub mod Within
+pub mod Assembling
 pub mod Outcome
+pub mod LoopNames
 pub mod Said
 pub mod Kinds
 pub mod Counts
 pub mod Made
+pub mod Tallies
+pub mod Numbers
+pub mod Origins

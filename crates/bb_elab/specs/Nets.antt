@@ -1,7 +1,7 @@
--- Which bits are nets, what drives them, and how faults name them.
+-- Which bits are nets, what drives them, and how faults name them. `vars` are all variables, those of made nets among them.
 use Rattle.std.specs.Prelude.{ℕ, suc, ◌+◌, ◌-◌, Bool, not, ◌||◌, nat_eq, nat_lt, List, [], ◌∷◌, ◌++◌, map, length, take, filter, find, flat_map, count_by, codes, Option, None, if◌then◌else◌, decimal}
 use Rattle.std.specs.List.{list_any, range_with_len}
-use Rattle.std.specs.Option.{option_map}
+use Rattle.std.specs.Option.{option_map, option_or}
 use Rattle.std.specs.Str.{bytes_eq}
 use Rattle.bb_net.specs.Bits.{Entry, Bit, bit_of, range_width, is_input, is_output}
 use Rattle.bb_net.specs.declared.variable.Role.{Role}
@@ -43,25 +43,25 @@ bits_from passes first (v ∷ vs) =
     (if passes v.1.role then range_with_len first (range_width v.1.range) else []) ++ bits_from passes (first + range_width v.1.range) vs
 
 abbrev pub input_bits : List Entry → List ℕ
-input_bits table = bits_from is_input 0 table
+input_bits vars = bits_from is_input 0 vars
 
 abbrev pub output_bits : List Entry → List ℕ
-output_bits table = bits_from is_output 0 table
+output_bits vars = bits_from is_output 0 vars
 
 -- the bits that are driven, one entry a driver; an input bit has one by itself
 abbrev pub driven : List Entry → Work → List ℕ
-driven table w = input_bits table ++ (map (λ g. g.out) w.gates ++ map (λ f. f.q) w.flops)
+driven vars w = input_bits vars ++ (map (λ g. g.out) w.gates ++ map (λ f. f.q) w.flops)
 
 -- the bits that are read: by the outside, gates, d pins and clock pins
 abbrev pub read : List Entry → Work → List ℕ
-read table w = output_bits table ++ (flat_map (λ g. g.ins) w.gates ++ (map (λ f. f.d) w.flops ++ map (λ f. f.clock) w.flops))
+read vars w = output_bits vars ++ (flat_map (λ g. g.ins) w.gates ++ (map (λ f. f.d) w.flops ++ map (λ f. f.clock) w.flops))
 
 abbrev pub has_bit : List ℕ → ℕ → Bool
 has_bit bits b = list_any (nat_eq b) bits
 
 -- the nets in their order: a bit is one where it is driven or read
 abbrev pub nets : List Entry → Work → List ℕ
-nets table w = filter (λ b. has_bit (driven table w) b || has_bit (read table w) b) (range_with_len 0 w.fresh)
+nets vars w = filter (λ b. has_bit (driven vars w) b || has_bit (read vars w) b) (range_with_len 0 w.fresh)
 
 -- names of bits ---------------------------------------------------------
 
@@ -71,19 +71,23 @@ bit_name number [] b = record { variable = number; place = b }
 bit_name number (v ∷ vs) b = if nat_lt b (range_width v.1.range) then record { variable = number; place = b } else bit_name (suc number) vs (b - range_width v.1.range)
 
 -- how texts name the bit of this number
-abbrev pub named : List Entry → Work → ℕ → Bit
-named table w b = bit_of (all_variables table w) (bit_name 0 (all_variables table w) b)
+abbrev pub named : List Entry → ℕ → Bit
+named vars b = bit_of vars (bit_name 0 vars b)
 
 -- the fault of the first net that the test finds
 abbrev pub first_net : (List ℕ → Option ℕ → ElabFault) → (ℕ → Bool) → List Entry → Work → Option ElabFault
-first_net fault test table w = option_map (λ b. fault (named table w b).name (named table w b).index) (find test (nets table w))
+first_net fault test vars w = option_map (λ b. fault (named vars b).name (named vars b).index) (find test (nets vars w))
 
 -- faults ----------------------------------------------------------------
 
 -- the fault of a net with two drivers
 abbrev pub two_drivers : List Entry → Work → Option ElabFault
-two_drivers table w = first_net TwoDrivers (λ b. nat_lt 1 (count_by (nat_eq b) (driven table w))) table w
+two_drivers vars w = first_net TwoDrivers (λ b. nat_lt 1 (count_by (nat_eq b) (driven vars w))) vars w
 
 -- and of one without any
 abbrev pub undriven : List Entry → Work → Option ElabFault
-undriven table w = first_net Undriven (λ b. not (has_bit (driven table w) b)) table w
+undriven vars w = first_net Undriven (λ b. not (has_bit (driven vars w) b)) vars w
+
+-- the first fault of drivers
+abbrev pub driver_fault : List Entry → Work → Option ElabFault
+driver_fault vars w = option_or (two_drivers vars w) (undriven vars w)

@@ -1,28 +1,43 @@
-//! Elaboration: what a module denotes, and the first fault that its text shows.
+//! Elaboration: what a module denotes.
 //!
 //! - `specs/Outcome.antt` says what a module denotes, a named netlist or its first fault: variables, gates in the text's order,
 //!   drivers, the clock and loops.
-//! - `text_fault` answers exactly the first fault of names, declarations, ports, cells, pins, selects, widths and the number of bits.
-//! - The nets that it counts are those that the gates then made have.
-//!
-//! Not here yet: the netlist itself, and the faults of drivers, clocks and loops.
+//! - `elaborate` answers exactly that: the named netlist and the order of its gates, or the first fault. A module has one outcome.
+//! - `text_fault` answers the first fault of names, declarations, ports, cells, pins, selects, widths and the number of bits, before
+//!   any gate is made. The nets that it counts are those that the gates then made have.
 #![tactic(auto)]
 
+mod assemble;
+mod bitwise;
+mod cell_gates;
 mod cells;
+mod clock;
+mod drivers;
 mod fault;
+mod items;
 mod laws;
+mod marks;
+mod nets;
+mod numbers;
+mod origins;
+mod outcome;
 mod parts;
 mod pins;
 mod ports;
+mod prims;
 mod references;
 mod said;
+mod scope;
 mod sizes;
+mod steps;
 mod table;
 #[cfg(test)]
 mod tests;
 mod text;
 mod value;
+mod work;
 
 pub use fault::ElabFault;
-pub use laws::counted_nets_are_made;
+pub use laws::{counted_nets_are_made, one_outcome};
+pub use outcome::elaborate;
 pub use text::text_fault;

@@ -37,7 +37,7 @@ fn is_inside(range: (u32, u32), index: u32) -> bool
 }
 
 /// The bits that a select names, none where it is bad.
-fn selected(range: Option<(u32, u32)>, select: Option<(u32, u32)>) -> Option<Span>
+pub(crate) fn selected(range: Option<(u32, u32)>, select: Option<(u32, u32)>) -> Option<Span>
     ensures { result ≡ selected range select }
 {
     let Some((left, right)) = select else {

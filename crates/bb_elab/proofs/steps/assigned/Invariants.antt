@@ -1,0 +1,6 @@
+use Rattle.std.proofs.Common.{◌≡◌, [], drop}
+use Rattle.bb_elab.specs.Making.{assigned}
+use Rattle.bb_elab.proofs.steps.assigned.Given as goal
+
+abbrev pub invariant-loop-index : goal.invariant-loop-index
+invariant-loop-index l = (assigned l.scope l.targets (drop l.index l.steps) l.stack l.work).1 ≡ (assigned l.scope l.targets l.steps [] l.fn.work).1

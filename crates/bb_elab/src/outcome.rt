@@ -1,0 +1,143 @@
+//! Elaboration: the netlist that a module denotes, or its first fault.
+
+ghost use Rattle.std.specs.Prelude.{◌≡◌, ◌≢◌, ◌<◌, IfOk, IfErr, OnOk, Ok, Err, None, Some, All, length};
+ghost use Rattle.bb_net.specs.Bits.{IsEntry};
+ghost use Rattle.bb_net.specs.Named.{IsNamed, net_text};
+ghost use Rattle.bb_net.specs.Order.{IsOrder};
+ghost use Rattle.bb_parse.specs.Sound.{IsSoundModule};
+ghost use Rattle.bb_elab.specs.declared.fault.ElabFault.TheVariants.{NoMemory};
+ghost use Rattle.bb_elab.specs.Variables.{variables};
+ghost use Rattle.bb_elab.specs.Text.{text_fault};
+ghost use Rattle.bb_elab.specs.Within.{IsWithin};
+ghost use Rattle.bb_elab.specs.Assembling.{ArePortsFirst};
+ghost use Rattle.bb_elab.specs.LoopNames.{loop_at, IsLoopIn};
+ghost use Rattle.bb_elab.specs.Outcome.{IsOutcome, work_in, variables_in, net_fault, named_of, denoted};
+
+use crate::ElabFault;
+use crate::assemble::assemble;
+use crate::clock::clock_in;
+use crate::items::work_of;
+use crate::nets::{all_variables, driven_nets, index_of};
+use crate::scope::Scope;
+use crate::text::checked;
+use crate::work::Work;
+use bb_net::{Name, Named, NetId, Order, OrderFault, Variable, find_order};
+use bb_parse::Module;
+use indexmap::IndexMap;
+use std::alloc::{AllocError, Global};
+
+/// The fault of a loop of so many nets, of which this is the first.
+fn loop_fault(
+    alloc: Global,
+    named: &Named,
+    net: NetId,
+    count: usize,
+) -> Result<ElabFault, AllocError>
+    requires { net < length named.now.names }
+    ensures { IfOk result (λ fault. fault ≡ loop_at (net_text named.now net) count) }
+{
+    let bit = named.name(net);
+    let (name, variable) = named.variable(bit.variable);
+    Ok(ElabFault::Loop {
+        name: name.copy(alloc)?,
+        select: index_of(variable.range, bit.place),
+        count: u32::try_from(count).unwrap_or(u32::MAX),
+    })
+}
+
+/// The order of the gates, or the fault of a loop.
+fn ordered(alloc: Global, named: &Named) -> Result<Order, ElabFault>
+    ensures order { IfOk result (λ order. IsOrder named.now.netlist.gates order) }
+    ensures fault { IfErr result (λ fault. fault ≢ NoMemory → IsLoopIn named.now fault) }
+{
+    match find_order(alloc, named.netlist()) {
+        Ok(order) => Ok(order),
+        Err(OrderFault::Loop { nets }) => Err(loop_fault(alloc, named, nets[0], nets.len())?),
+        Err(OrderFault::NoMemory) => Err(ElabFault::NoMemory),
+    }
+}
+
+/// The named netlist over these variables and this work, or the first fault of drivers and clocks.
+fn wired(
+    alloc: Global,
+    name: Name,
+    vars: IndexMap<Name, Variable>,
+    work: &Work,
+) -> Result<Result<Named, ElabFault>, AllocError>
+    requires within { IsWithin work.now }
+    requires entries { All IsEntry vars.entries }
+    requires ports_first { ArePortsFirst vars.entries }
+    ensures named { IfOk result (λ found. IfOk found (λ named. named ≡ named_of name vars.entries work.now)) }
+    ensures valid { IfOk result (λ found. OnOk found (IsNamed (named_of name vars.entries work.now))) }
+    ensures fine { IfOk result (λ found. OnOk found (net_fault vars.entries work.now ≡ None)) }
+    ensures fault { IfOk result (λ found. IfErr found (λ fault. net_fault vars.entries work.now ≡ Some fault)) }
+{
+    let bits = match driven_nets(alloc, &vars, work)? {
+        Ok(bits) => bits,
+        Err(fault) => return Ok(Err(fault)),
+    };
+    let clock = match clock_in(alloc, &vars, work, &bits)? {
+        Ok(clock) => clock,
+        Err(fault) => return Ok(Err(fault)),
+    };
+    let named = assemble(alloc, name, vars, work, &bits, &clock)?;
+    Ok(Ok(named))
+}
+
+/// All variables of a module with this table of those of its text, and what its items make.
+fn made_in(
+    alloc: Global,
+    module: &Module,
+    table: IndexMap<Name, Variable>,
+) -> Result<(IndexMap<Name, Variable>, Work), AllocError>
+    requires { table.entries ≡ variables «module».now }
+    ensures vars { IfOk result (λ made. made.0.entries ≡ variables_in «module».now) }
+    ensures work { IfOk result (λ made. made.1 ≡ work_in «module».now) }
+{
+    let scope = Scope::new(alloc, table)?;
+    let work = work_of(alloc, &scope, module.items.as_slice())?;
+    let vars = all_variables(alloc, scope.into_table(), &work)?;
+    Ok((vars, work))
+}
+
+/// The named netlist of a module whose text has no fault and this table of variables, or the first fault of drivers and clocks.
+fn named_in(
+    alloc: Global,
+    own: bool,
+    module: &Module,
+    table: IndexMap<Name, Variable>,
+) -> Result<Result<Named, ElabFault>, AllocError>
+    requires sound { IsSoundModule «module».now }
+    requires table { table.entries ≡ variables «module».now }
+    requires fine { text_fault own «module».now ≡ None }
+    ensures named { IfOk result (λ found. IfOk found (λ named. named ≡ denoted «module».now)) }
+    ensures valid { IfOk result (λ found. OnOk found (IsNamed (denoted «module».now))) }
+    ensures fine { IfOk result (λ found. OnOk found (net_fault (variables_in «module».now) (work_in «module».now) ≡ None)) }
+    ensures fault { IfOk result (λ found. IfErr found (λ fault. net_fault (variables_in «module».now) (work_in «module».now) ≡ Some fault)) }
+{
+    let (vars, work) = made_in(alloc, module, table)?;
+    let name = module.name.copy(alloc)?;
+    wired(alloc, name, vars, &work)
+}
+
+/// The named netlist that a module denotes and the order of its gates, or the first fault. `own` allows names that begin with
+/// `bt_` and the larger limit on bits.
+///
+/// The module is one of a text: its names are names, and its numbers are in their ranges.
+pub fn elaborate(alloc: Global, module: &Module, own: bool) -> Result<(Named, Order), ElabFault>
+    requires { IsSoundModule «module».now }
+    ensures named { IfOk result (λ found. IsOutcome own «module».now (Ok found.0)) }
+    ensures order { IfOk result (λ found. IsOrder found.0.netlist.gates found.1) }
+    ensures fault { IfErr result (λ fault. fault ≢ NoMemory → IsOutcome own «module».now (Err fault)) }
+{
+    let table = match checked(alloc, own, module)? {
+        Ok(table) => table,
+        Err(fault) => return Err(fault),
+    };
+    let named = match named_in(alloc, own, module, table)? {
+        Ok(named) => named,
+        Err(fault) => return Err(fault),
+    };
+    let order = ordered(alloc, &named)?;
+    Ok((named, order))
+}

@@ -1,0 +1,115 @@
+//! The gates of primitives.
+
+ghost use Rattle.std.specs.Prelude.{◌≡◌, ◌≤◌, ◌-◌, ◌++◌, OnOk, IfOk, flat_map};
+ghost use Rattle.std.specs.List.{range_with_len};
+ghost use Rattle.bb_elab.specs.Parts.{outs_of, ins_of};
+ghost use Rattle.bb_elab.specs.Making.{ref_bits, terminals_made, driven_bits, all_driven, prim_made};
+ghost use Rattle.bb_elab.specs.Makes.{Makes};
+
+use crate::scope::{Bits, Scope};
+use crate::steps::terminal_made;
+use crate::work::Work;
+use bb_net::{NetId, Op};
+use bb_parse::{Expr, Ref, Step};
+use std::alloc::AllocError;
+
+/// The nets of terminals that are read, one after the other.
+fn terminals_made(work: &mut Work, scope: &Scope, terms: &[Expr]) -> Result<Vec<NetId>, AllocError>
+    ensures { IfOk result (λ nets. Makes (terminals_made scope.now terms.now) work.old nets.items work.new) }
+{
+    let mut nets = Vec::new(work.alloc);
+    for term in terms {
+        let more = terminal_made(work, scope, term.as_slice())?;
+        nets.extend_from_slice(&more)?;
+    }
+    Ok(nets)
+}
+
+/// Adds bits that stand together.
+fn add_bits(nets: &mut Vec<NetId>, bits: Bits) -> Result<(), AllocError>
+    requires { bits.first ≤ bits.end }
+    ensures { OnOk result (nets.new.items ≡ nets.old.items ++ range_with_len bits.first (bits.end - bits.first)) }
+{
+    for bit in bits.first..bits.end {
+        nets.push(NetId(bit))?;
+    }
+    Ok(())
+}
+
+/// Adds the bits that a reference names.
+pub(crate) fn add_ref_bits(
+    scope: &Scope,
+    reference: &Ref,
+    nets: &mut Vec<NetId>,
+) -> Result<(), AllocError>
+    ensures { OnOk result (nets.new.items ≡ nets.old.items ++ ref_bits scope.now reference.now) }
+{
+    add_bits(nets, scope.bits(reference))
+}
+
+/// Adds the nets of a terminal that is driven.
+pub(crate) fn add_driven_bits(
+    scope: &Scope,
+    steps: &[Step],
+    nets: &mut Vec<NetId>,
+) -> Result<(), AllocError>
+    ensures { OnOk result (nets.new.items ≡ nets.old.items ++ driven_bits scope.now steps.now) }
+{
+    match steps.first() {
+        Some(Step::Ref(reference)) => add_ref_bits(scope, reference, nets),
+        _ => Ok(()),
+    }
+}
+
+/// Adds the nets of terminals that are driven.
+fn add_all_driven_bits(
+    scope: &Scope,
+    terms: &[Expr],
+    nets: &mut Vec<NetId>,
+) -> Result<(), AllocError>
+    ensures { OnOk result (nets.new.items ≡ nets.old.items ++ flat_map (driven_bits scope.now) terms.now) }
+{
+    for term in terms {
+        add_driven_bits(scope, term.as_slice(), nets)?;
+    }
+    Ok(())
+}
+
+/// The same gate for each target.
+fn all_driven(work: &mut Work, op: Op, ins: &[NetId], targets: &[NetId]) -> Result<(), AllocError>
+    ensures { OnOk result (work.new ≡ (all_driven op ins.now targets.now work.old).1) }
+{
+    for target in targets {
+        work.drive(op, ins, *target)?;
+    }
+    Ok(())
+}
+
+/// The terminals that a primitive drives, and those that it reads: not and buf drive every one but the last, others the first alone.
+fn parts_of(op: Op, terms: &[Expr]) -> (&[Expr], &[Expr])
+    ensures outs { result.0.now ≡ outs_of op terms.now }
+    ensures ins { result.1.now ≡ ins_of op terms.now }
+{
+    let count = terms.len();
+    let outs = match op {
+        Op::Not | Op::Buf => count.saturating_sub(1),
+        _ => 1,
+    };
+    terms.split_at(outs.min(count))
+}
+
+/// The gates of a primitive: those of the terminals that it reads come first, and then one for each net that it drives.
+pub(crate) fn prim_made(
+    work: &mut Work,
+    scope: &Scope,
+    op: Op,
+    terms: &[Expr],
+) -> Result<(), AllocError>
+    ensures { OnOk result (work.new ≡ (prim_made scope.now op terms.now work.old).1) }
+{
+    let (outs, ins) = parts_of(op, terms);
+    let nets = terminals_made(work, scope, ins)?;
+    let mut targets = Vec::new(work.alloc);
+    add_all_driven_bits(scope, outs, &mut targets)?;
+    all_driven(work, op, &nets, &targets)
+}
