@@ -1,10 +1,12 @@
--- The kinds of the tokens that a canonical text spells, line by line.
-use Rattle.std.specs.Prelude.{ℕ, ◌+◌, List, [], ◌∷◌, ◌++◌, codes, decimal, Option, None, Some}
+-- The tokens that a canonical text spells, line by line, and their kinds.
+use Rattle.std.specs.Prelude.{ℕ, ◌+◌, length, List, [], ◌∷◌, ◌++◌, map, codes, decimal, Option, None, Some}
 use Rattle.bb_lex.specs.declared.token.Keyword.{Keyword}
 use Rattle.bb_lex.specs.declared.token.Keyword.TheVariants as keys
 use Rattle.bb_lex.specs.declared.token.Mark.TheVariants as marks
+use Rattle.bb_lex.specs.declared.token.Token.{Token}
 use Rattle.bb_lex.specs.declared.token.TokenKind.{TokenKind}
 use Rattle.bb_lex.specs.declared.token.TokenKind.TheVariants.{Key, Name, Number, Const, Mark}
+use Rattle.bb_lex.specs.Text.{number}
 use Rattle.bb_net.specs.declared.net.Op.{Op}
 use Rattle.bb_net.specs.declared.net.Op.TheVariants.{And, Nand, Or, Nor, Xor, Xnor, Not, Buf, Zero, One}
 use Rattle.bb_net.specs.declared.variable.Role.{Role}
@@ -96,23 +98,30 @@ abbrev pub flop_kinds : Bit → ℕ → Flop Bit → Kinds
 flop_kinds clock j f =
     Name (codes "dff") ∷ Name (flop_name j) ∷ Mark marks.LeftParen ∷ (bit_kinds clock ++ Mark marks.Comma ∷ (bit_kinds f.q ++ Mark marks.Comma ∷ (bit_kinds f.d ++ paren_end)))
 
--- of lines of one kind, and of what stands behind them
-abbrev pub all_kinds : {X : Type 0} → (X → Kinds) → List X → Kinds → Kinds
-all_kinds kinds [] behind = behind
-all_kinds kinds (x ∷ xs) behind = kinds x ++ all_kinds kinds xs behind
-
--- of flip-flops that are counted from j, and of what stands behind them
-abbrev pub counted_kinds : Bit → ℕ → List (Flop Bit) → Kinds → Kinds
-counted_kinds clock j [] behind = behind
-counted_kinds clock j (f ∷ fs) behind = flop_kinds clock j f ++ counted_kinds clock (j + 1) fs behind
-
-abbrev pub flops_kinds : Option Bit → List (Flop Bit) → Kinds → Kinds
-flops_kinds None fs behind = behind
-flops_kinds (Some clock) fs behind = counted_kinds clock 0 fs behind
-
 -- of the last line
 abbrev pub end_kinds : Kinds
 end_kinds = Key keys.Endmodule ∷ []
 
-abbrev pub text_kinds : Design → Kinds
-text_kinds d = module_kinds d.module_name (port_names d.variables) ++ all_kinds declaration_kinds d.variables (all_kinds statement_kinds d.netlist.gates (flops_kinds d.clock d.netlist.flops end_kinds))
+-- tokens of these kinds in one line
+abbrev pub at : ℕ → Kinds → List Token
+at line ks = map (λ k. record { kind = k; line = line }) ks
+
+-- the tokens of lines of one kind behind so many others, and of what stands behind them
+abbrev pub all_tokens : {X : Type 0} → (X → Kinds) → ℕ → List X → List Token → List Token
+all_tokens kinds before [] behind = behind
+all_tokens kinds before (x ∷ xs) behind = at (number before) (kinds x) ++ all_tokens kinds (before + 1) xs behind
+
+-- of flip-flops that are counted from j, and of what stands behind them
+abbrev pub counted_tokens : Bit → ℕ → ℕ → List (Flop Bit) → List Token → List Token
+counted_tokens clock j before [] behind = behind
+counted_tokens clock j before (f ∷ fs) behind = at (number before) (flop_kinds clock j f) ++ counted_tokens clock (j + 1) (before + 1) fs behind
+
+abbrev pub flops_tokens : Option Bit → ℕ → List (Flop Bit) → List Token → List Token
+flops_tokens None before fs behind = behind
+flops_tokens (Some clock) before fs behind = counted_tokens clock 0 before fs behind
+
+-- of a whole text; its last line stands behind so many others
+abbrev pub text_tokens : Design → ℕ → List Token
+text_tokens d last =
+    at (number 0) (module_kinds d.module_name (port_names d.variables))
+    ++ all_tokens declaration_kinds 1 d.variables (all_tokens statement_kinds (1 + length d.variables) d.netlist.gates (flops_tokens d.clock (1 + length d.variables + length d.netlist.gates) d.netlist.flops (at (number last) end_kinds)))

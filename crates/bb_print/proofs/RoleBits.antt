@@ -28,7 +28,7 @@ role_join p clock k (v ∷ vs) ys =
     ∙ sym (append_assoc (chunk p clock k v) (role_bits p clock (k + 1) vs) (role_bits p clock (k + suc (length vs)) ys))
 
 -- numbers that rise
-abbrev Rising : List ℕ → Type 0
+abbrev pub Rising : List ℕ → Type 0
 Rising [] = Unit {0}
 Rising (x ∷ xs) = AllByRecursion (λ m. x < m) xs × Rising xs
 
@@ -36,7 +36,7 @@ range_above : (low from n : ℕ) → low < from → AllByRecursion (λ m. low < 
 range_above low from zero h = tt
 range_above low from (suc n) h = (h, range_above low (from + 1) n (omega arith))
 
-range_rises : (from n : ℕ) → Rising (range_with_len from n)
+pub range_rises : (from n : ℕ) → Rising (range_with_len from n)
 range_rises from zero = tt
 range_rises from (suc n) = (range_above from (from + 1) n (omega arith), range_rises (from + 1) n)
 

@@ -1,6 +1,5 @@
 -- Bytes as lexemes, and the kinds of their tokens.
-use Rattle.std.proofs.Common.{◌≡◌, ℕ, ◌+◌, ◌-◌, ◌*◌, ◌<◌, ◌≤◌, ◌^◌, List, [], ◌∷◌, ◌++◌, length, map, codes, decimal, Option, Some, None, IsSome, Ok, Bool, true, false, not, ◌||◌, eqb, refl, sym, ap, ◌∙◌, arith, append_assoc, subst, if◌then◌else◌}
-use Rattle.std.proofs.lemmas.List.{append-nil}
+use Rattle.std.proofs.Common.{◌≡◌, ℕ, ◌+◌, ◌-◌, ◌*◌, ◌<◌, ◌≤◌, ◌^◌, List, [], ◌∷◌, ◌++◌, length, map, codes, decimal, Option, Some, None, IsSome, Bool, true, false, not, ◌||◌, eqb, refl, sym, ap, ◌∙◌, arith, append_assoc, subst, if◌then◌else◌}
 use Rattle.std.proofs.lemmas.Bool.Decides.{nat_tests}
 use Rattle.std.proofs.lemmas.List.Elements.{recursion_from_All}
 use Rattle.std.proofs.lemmas.Fmt.{decimal_nonempty}
@@ -11,10 +10,9 @@ use Rattle.bb_lex.specs.declared.token.Keyword.{Keyword}
 use Rattle.bb_lex.specs.declared.token.Mark.TheVariants as marks
 use Rattle.bb_lex.specs.declared.token.TokenKind.{TokenKind}
 use Rattle.bb_lex.specs.declared.token.TokenKind.TheVariants.{Name, Number, Const, Mark}
-use Rattle.bb_lex.specs.declared.token.Token.{Token}
-use Rattle.bb_lex.specs.Bytes.{between, class_of, is_word, is_number, is_constant, is_graphic, is_odd, base_of, digit_of, value, AllOf, begins, feeds}
+use Rattle.bb_lex.specs.Bytes.{between, class_of, is_word, is_number, is_constant, is_graphic, is_odd, base_of, digit_of, value, AllOf, begins}
 use Rattle.bb_lex.specs.Keywords.{keywords as lex_keywords, in_table, keyword_of, word_kind}
-use Rattle.bb_lex.specs.Text.{Lexeme, Blank, Word, Escaped, Digits, Constant, Paren, Single, Plain, Literal, IsPlain, spelling, IsLexeme, kind_of, tokens_by, text_of, Each, tokens_of, feeds_of, number, Denotes}
+use Rattle.bb_lex.specs.Text.{Lexeme, Blank, Word, Escaped, Digits, Constant, Paren, Single, Plain, Literal, IsPlain, spelling, IsLexeme, kind_of, text_of, Each}
 use Rattle.bb_net.specs.Name.{IsName, IsNameByte}
 use Rattle.bb_print.specs.Spelling.{starts_word, is_word_byte, is_simple, is_keyword, is_plain, spelled_name}
 use Rattle.bb_print.specs.Reading.{number_cap}
@@ -36,11 +34,11 @@ pub record Spelt (bytes : List ℕ) (kinds : List TokenKind) (after : List ℕ) 
   pub each : Each lexemes after
   pub kinds_are : kinds_of lexemes ≡ kinds
 
-text_join : (ls ms : List Lexeme) (last : List ℕ) → text_of (ls ++ ms) last ≡ text_of ls (text_of ms last)
+pub text_join : (ls ms : List Lexeme) (last : List ℕ) → text_of (ls ++ ms) last ≡ text_of ls (text_of ms last)
 text_join [] ms last = refl
 text_join (l ∷ ls) ms last = ap (λ z. spelling l ++ z) (text_join ls ms last)
 
-each_join : (ls ms : List Lexeme) (last : List ℕ) → Each ls (text_of ms last) → Each ms last → Each (ls ++ ms) last
+pub each_join : (ls ms : List Lexeme) (last : List ℕ) → Each ls (text_of ms last) → Each ms last → Each (ls ++ ms) last
 each_join [] ms last h k = k
 each_join (l ∷ ls) ms last h k = (subst (IsLexeme l) (sym (text_join ls ms last)) h.0, each_join ls ms last h.1 k)
 
@@ -258,27 +256,3 @@ one_spelt after =
     let literal : Literal = record { head = record { size = record { first = 49; more = [] }; sign = [] }; letter = 98; base = from_some (base_of 98) refl; first = 49; more = [] } in
     let below : 1 < 2 ^ 1 = omega arith in
     spelt_one (Constant literal) (59 ∷ after) (record { head = record { plain = record { digit = refl; digits = tt }; in_range = refl; sign = tt }; base = refl; digit = refl; digits = tt }, refl, below)
-
--- the tokens of lexemes have their kinds, whatever their lines
-token_kinds : (before : ℕ) (o : Option TokenKind) (ts : List Token) → map (λ (t : Token). t.kind) (tokens_by before o ++ ts) ≡ add_kind o (map (λ (t : Token). t.kind) ts)
-token_kinds before None ts = refl
-token_kinds before (Some k) ts = refl
-
-pub tokens_kinds : (before : ℕ) (ls : List Lexeme) → map (λ (t : Token). t.kind) (tokens_of before ls) ≡ kinds_of ls
-tokens_kinds before [] = refl
-tokens_kinds before (l ∷ ls) = token_kinds before (kind_of l) (tokens_of (before + feeds (spelling l)) ls) ∙ ap (add_kind (kind_of l)) (tokens_kinds (before + feeds (spelling l)) ls)
-
--- a text of lexemes alone has no fault
-pub record Lexed (text : List ℕ) (kinds : List TokenKind) : Type 0 where
-  pub tokens : List Token
-  pub line : ℕ
-  pub denotes : Denotes text tokens (Ok line)
-  pub kinds_are : map (λ (t : Token). t.kind) tokens ≡ kinds
-
-pub lexed : (text : List ℕ) (kinds : List TokenKind) → Spelt text kinds [] → Lexed text kinds
-lexed text kinds s = record {
-  tokens = tokens_of 0 s.lexemes;
-  line = number (feeds_of 0 s.lexemes);
-  denotes = record { lexemes = s.lexemes; last = []; spelt = sym (s.text ∙ append-nil text); each = s.each; given_tokens = refl; stops = (refl, refl) };
-  kinds_are = tokens_kinds 0 s.lexemes ∙ s.kinds_are;
-}

@@ -1,6 +1,5 @@
 -- Each line of a canonical text as lexemes, and their tokens' kinds.
-use Rattle.std.proofs.Common.{◌≡◌, ℕ, ◌+◌, ◌<◌, ◌≤◌, List, [], ◌∷◌, ◌++◌, length, map, codes, decimal, Option, Some, None, Bool, true, false, not, eqb, refl, sym, ap, ◌∙◌, arith, append_assoc, subst}
-use Rattle.std.proofs.lemmas.List.{append-nil}
+use Rattle.std.proofs.Common.{◌≡◌, ℕ, ◌<◌, ◌≤◌, List, [], ◌∷◌, ◌++◌, length, map, codes, decimal, Option, Some, None, Bool, true, false, not, eqb, refl, sym, ap, ◌∙◌, arith, append_assoc, subst}
 use Rattle.std.proofs.lemmas.Bool.Decides.{nat_tests}
 use Rattle.std.specs.List.{AllByRecursion, flat_map, list_all}
 use Rattle.std.proofs.lemmas.Fmt.{length-decimal-le}
@@ -19,21 +18,18 @@ use Rattle.bb_net.specs.declared.variable.Role.TheVariants.{Input, Output, Wire}
 use Rattle.bb_net.specs.Name.{IsName}
 use Rattle.bb_net.specs.Net.{Gate, Flop}
 use Rattle.bb_net.specs.Bits.{Entry, Bit, IsEntry, IsRange}
-use Rattle.bb_net.specs.Named.{Design}
 use Rattle.bb_print.specs.Spelling.{starts_word, is_word_byte, is_simple, is_keyword, is_plain, spelled_name, spelled_index, spelled_bit, further, joined, module_line, role_word, spelled_range, declaration, op_word, constant_line, primitive_line, statement_by, statement, flop_line}
-use Rattle.bb_print.specs.Canonical.{port_names, flop_lines, canonical_text, with_feed}
 use Rattle.bb_print.specs.Reading.{number_cap}
 use Rattle.bb_print.proofs.Again.{Pass, both_true, pass_from_all, decimal_passes, IsIndex, IsBitText}
 use Rattle.bb_print.proofs.LineAgain.{IsGateText, IsFlopText}
-use Rattle.bb_print.proofs.OneDesign.{Clocked, IsText}
-use Rattle.bb_print.proofs.LineKinds.{Kinds, paren_end, further_names, names_kinds, module_kinds, role_key, range_kinds, declaration_kinds, index_kinds, bit_kinds, further_bits, primitive_kinds, constant_kinds, kinds_by, statement_kinds, flop_name, flop_kinds, all_kinds, counted_kinds, flops_kinds, end_kinds, text_kinds}
-use Rattle.bb_print.proofs.Spelt.{Spelt, spelt_join, spelt_nothing, comma, semicolon, colon, equals, close_paren, open_bracket, close_bracket, space, feed, open_paren, word_spelt, no_keyword, name_spelt, EndsNumber, number_spelt, zero_spelt, one_spelt}
+use Rattle.bb_print.proofs.LineKinds.{Kinds, paren_end, further_names, names_kinds, module_kinds, role_key, range_kinds, declaration_kinds, index_kinds, bit_kinds, further_bits, primitive_kinds, constant_kinds, kinds_by, statement_kinds, flop_name, flop_kinds}
+use Rattle.bb_print.proofs.Spelt.{Spelt, spelt_join, spelt_nothing, comma, semicolon, colon, equals, close_paren, open_bracket, close_bracket, space, open_paren, word_spelt, no_keyword, name_spelt, EndsNumber, number_spelt, zero_spelt, one_spelt}
 
 -- no word goes on here
 abbrev NoWord : List ℕ → Type 0
 NoWord after = begins is_word after ≡ false
 
-at_feed : is_word 10 ≡ false
+pub at_feed : is_word 10 ≡ false
 unfolding is_word
 at_feed = refl
 
@@ -95,7 +91,7 @@ module_word : (after : List ℕ) → NoWord after → Spelt (codes "module") (Ke
 unfolding keyword_of
 module_word after stops = word_of (codes "module") after (Key keys.Module) refl (omega arith) refl stops
 
-end_word : (after : List ℕ) → NoWord after → Spelt (codes "endmodule") (Key keys.Endmodule ∷ []) after
+pub end_word : (after : List ℕ) → NoWord after → Spelt (codes "endmodule") (Key keys.Endmodule ∷ []) after
 unfolding keyword_of
 end_word after stops = word_of (codes "endmodule") after (Key keys.Endmodule) refl (omega arith) refl stops
 
@@ -170,7 +166,7 @@ ports_star (p ∷ ps) after =
     let rest : List ℕ = flat_map further (map spelled_name ps) in
     ap (begins (λ b. eqb b 42)) (append_assoc (spelled_name p ++ rest) (codes ");") after ∙ append_assoc (spelled_name p) rest (codes ");" ++ after)) ∙ name_star p _
 
-module_spelt : (name : List ℕ) (ports : List (List ℕ)) (after : List ℕ) → IsName name → AllByRecursion IsName ports → Spelt (module_line name ports) (module_kinds name ports) after
+pub module_spelt : (name : List ℕ) (ports : List (List ℕ)) (after : List ℕ) → IsName name → AllByRecursion IsName ports → Spelt (module_line name ports) (module_kinds name ports) after
 module_spelt name ports after h all =
     let inside : List ℕ = joined (map spelled_name ports) ++ codes ");" in
     let ks : Kinds = names_kinds ports ++ paren_end in
@@ -198,7 +194,7 @@ range_stops : (r : Option (ℕ × ℕ)) (after : List ℕ) → NoWord ((spelled_
 range_stops None after = at_space
 range_stops (Some r) after = at_space
 
-declaration_spelt : (v : Entry) (after : List ℕ) → IsEntry v → Spelt (declaration v) (declaration_kinds v) after
+pub declaration_spelt : (v : Entry) (after : List ℕ) → IsEntry v → Spelt (declaration v) (declaration_kinds v) after
 declaration_spelt v after h =
     let name : List ℕ = spelled_name v.0 ++ codes ";" in
     let blank : List ℕ = codes " " ++ name in
@@ -254,7 +250,7 @@ by_spelt Buf out ins after h all = primitive_spelt Buf keys.Buf out ins after re
 by_spelt Zero out ins after h all = constant_spelt out (codes "0") after 0 h zero_spelt
 by_spelt One out ins after h all = constant_spelt out (codes "1") after 1 h one_spelt
 
-statement_spelt : (g : Gate Bit) (after : List ℕ) → IsGateText g → Spelt (statement g) (statement_kinds g) after
+pub statement_spelt : (g : Gate Bit) (after : List ℕ) → IsGateText g → Spelt (statement g) (statement_kinds g) after
 statement_spelt g after h = by_spelt g.op g.out g.ins after h.out h.ins
 
 -- flip-flops
@@ -275,7 +271,7 @@ counted_word j after small stops =
     let short : length (flop_name j) ≤ 1024 = omega (arith, length-decimal-le 10 j (omega arith) (omega arith) (omega arith)) in
     subst (λ kind. Spelt (flop_name j) (kind ∷ []) after) (no_keyword (flop_name j) (counted_other j)) (word_spelt 98 (codes "t_f" ++ decimal j) after refl (refl, (refl, (refl, digits))) stops short)
 
-flop_spelt : (clock : Bit) (j : ℕ) (f : Flop Bit) (after : List ℕ) → j < number_cap → IsBitText clock → IsFlopText f → Spelt (flop_line (Some clock) j f) (flop_kinds clock j f) after
+pub flop_spelt : (clock : Bit) (j : ℕ) (f : Flop Bit) (after : List ℕ) → j < number_cap → IsBitText clock → IsFlopText f → Spelt (flop_line (Some clock) j f) (flop_kinds clock j f) after
 flop_spelt clock j f after small h k =
     let d_end : List ℕ = spelled_bit f.d ++ codes ");" in
     let q_end : List ℕ = spelled_bit f.q ++ (codes ", " ++ d_end) in
@@ -292,37 +288,3 @@ flop_spelt clock j f after small h k =
     (spelt_join (flop_name j) (codes " (" ++ inside) after (Name (flop_name j) ∷ []) (Mark marks.LeftParen ∷ ks) (counted_word j _ small at_space)
     (spelt_join (codes " ") (codes "(" ++ inside) after [] (Mark marks.LeftParen ∷ ks) (space _)
     (spelt_join (codes "(") inside after (Mark marks.LeftParen ∷ []) ks (open_paren _ star) of_all))))
-
--- lines one behind the other
-line_spelt : (line after : List ℕ) (ks : Kinds) → Spelt line ks (10 ∷ after) → Spelt (with_feed line) ks after
-line_spelt line after ks s = subst (λ k. Spelt (with_feed line) k after) (append-nil ks) (spelt_join line (codes "\n") after ks [] s (feed after))
-
-all_spelt : {X : Type 0} (P : X → Type 0) (f : X → List ℕ) (kinds : X → Kinds) → ((x : X) (after : List ℕ) → P x → Spelt (f x) (kinds x) after) → (xs : List X) (others : List (List ℕ)) (behind : Kinds) → AllByRecursion P xs → Spelt (flat_map with_feed others) behind []
-    → Spelt (flat_map with_feed (map f xs ++ others)) (all_kinds kinds xs behind) []
-all_spelt P f kinds each [] others behind all s = s
-all_spelt P f kinds each (x ∷ xs) others behind all s =
-    spelt_join (with_feed (f x)) (flat_map with_feed (map f xs ++ others)) [] (kinds x) (all_kinds kinds xs behind) (line_spelt (f x) _ (kinds x) (each x _ all.0)) (all_spelt P f kinds each xs others behind all.1 s)
-
-counted_spelt : (clock : Bit) (j : ℕ) (fs : List (Flop Bit)) (others : List (List ℕ)) (behind : Kinds) → j + length fs ≤ number_cap → IsBitText clock → AllByRecursion IsFlopText fs → Spelt (flat_map with_feed others) behind []
-    → Spelt (flat_map with_feed (flop_lines (Some clock) j fs ++ others)) (counted_kinds clock j fs behind) []
-counted_spelt clock j [] others behind small h all s = s
-counted_spelt clock j (f ∷ fs) others behind small h all s =
-    spelt_join (with_feed (flop_line (Some clock) j f)) (flat_map with_feed (flop_lines (Some clock) (j + 1) fs ++ others)) [] (flop_kinds clock j f) (counted_kinds clock (j + 1) fs behind)
-    (line_spelt (flop_line (Some clock) j f) _ (flop_kinds clock j f) (flop_spelt clock j f _ (omega arith) h all.0)) (counted_spelt clock (j + 1) fs others behind (omega arith) h all.1 s)
-
-flops_spelt : (clock : Option Bit) (fs : List (Flop Bit)) (others : List (List ℕ)) (behind : Kinds) → Clocked clock fs → length fs ≤ number_cap → AllByRecursion IsFlopText fs → Spelt (flat_map with_feed others) behind []
-    → Spelt (flat_map with_feed (flop_lines clock 0 fs ++ others)) (flops_kinds clock fs behind) []
-flops_spelt None fs others behind e few all s = subst (λ xs. Spelt (flat_map with_feed (flop_lines None 0 xs ++ others)) (flops_kinds None xs behind) []) (sym e) s
-flops_spelt (Some clock) fs others behind e few all s = counted_spelt clock 0 fs others behind (omega arith) e.0 all s
-
-end_spelt : Spelt (flat_map with_feed (codes "endmodule" ∷ [])) end_kinds []
-end_spelt = spelt_join (with_feed (codes "endmodule")) [] [] end_kinds [] (line_spelt (codes "endmodule") [] end_kinds (end_word _ at_feed)) (spelt_nothing [])
-
--- a canonical text
-pub text_spelt : (d : Design) → IsText d → Spelt (canonical_text d) (text_kinds d) []
-text_spelt d t =
-    spelt_join (with_feed (module_line d.module_name (port_names d.variables))) _ [] (module_kinds d.module_name (port_names d.variables)) _
-    (line_spelt (module_line d.module_name (port_names d.variables)) _ _ (module_spelt d.module_name (port_names d.variables) _ t.name t.ports))
-    (all_spelt IsEntry declaration declaration_kinds declaration_spelt d.variables _ _ t.variables
-    (all_spelt IsGateText statement statement_kinds statement_spelt d.netlist.gates _ _ t.gates
-    (flops_spelt d.clock d.netlist.flops (codes "endmodule" ∷ []) end_kinds t.clock t.few t.flops end_spelt)))

@@ -10,3 +10,5 @@ pub mod Along
 pub mod Places
 pub mod Grammatical
 pub mod Forms
+pub mod Printed
+pub mod Elaborated

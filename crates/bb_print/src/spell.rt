@@ -61,7 +61,7 @@ fn is_reserved(word: &[u8]) -> bool
 }
 
 /// Whether a name is written as it is.
-pub(crate) fn stands_plain(name: &[u8]) -> bool
+pub fn stands_plain(name: &[u8]) -> bool
     ensures { result ≡ is_plain name.now }
 {
     is_identifier(name) && !is_reserved(name)

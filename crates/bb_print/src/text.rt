@@ -1,10 +1,11 @@
-ghost use Rattle.std.specs.Prelude.{◌≡◌, ◌++◌, ◌<◌, ◌↔◌, List, ℕ, [], Option, Some, None, All, length, map, take, OnOk, OnErr, codes};
+ghost use Rattle.std.specs.Prelude.{◌≡◌, ◌++◌, ◌<◌, ◌↔◌, Bool, List, ℕ, [], Option, Some, None, All, length, map, take, OnOk, OnErr, codes};
 ghost use Rattle.std.specs.List.{flat_map};
 ghost use Rattle.bb_net.specs.Bits.{IsBit, bit_of};
 ghost use Rattle.bb_net.specs.Net.{renamed_gate, renamed_flop};
-ghost use Rattle.bb_net.specs.Named.{net_text, design_of};
+ghost use Rattle.bb_net.specs.Named.{IsNamed, net_text, design_of};
 ghost use Rattle.bb_print.specs.Spelling.{declaration, statement, module_line};
 ghost use Rattle.bb_print.specs.Canonical.{with_feed, port_names, flop_lines, canonical_text, Keeps};
+ghost use Rattle.bb_print.specs.Elaborated.{IsElaborable, Restores};
 
 use crate::line::{write_declaration, write_flop, write_module, write_statement};
 use bb_net::{BitName, Named};
@@ -74,6 +75,7 @@ fn put_clocked(
 fn put_flops(out: &mut Vec<u8>, line: &mut Vec<u8>, named: &Named) -> Result<(), AllocError>
     requires empty { line.old.items ≡ [] }
     ensures ok { OnOk result (out.new.items ≡ out.old.items ++ flat_map with_feed (flop_lines (design_of named.now).clock 0 (design_of named.now).netlist.flops)) }
+    ensures named { IsNamed named.now }
     ensures cleared { OnOk result (line.new.items ≡ []) }
     ensures kept { Keeps out.old.items out.new.items }
 {
@@ -85,6 +87,7 @@ fn put_flops(out: &mut Vec<u8>, line: &mut Vec<u8>, named: &Named) -> Result<(),
 
 fn put_lines(alloc: Global, out: &mut Vec<u8>, named: &Named) -> Result<(), AllocError>
     ensures ok { OnOk result (out.new.items ≡ out.old.items ++ canonical_text (design_of named.now)) }
+    ensures named { OnOk result (IsNamed named.now) }
     ensures kept { Keeps out.old.items out.new.items }
 {
     let mut line = Vec::new(alloc);
@@ -97,9 +100,10 @@ fn put_lines(alloc: Global, out: &mut Vec<u8>, named: &Named) -> Result<(), Allo
     end_line(out, &mut line)
 }
 
-/// Appends the canonical text of a netlist.
+/// Appends the canonical text of a netlist. What it elaborates to has the same design.
 pub fn print(alloc: Global, named: &Named, out: &mut Vec<u8>) -> Result<(), AllocError>
     ensures ok { OnOk result (out.new.items ≡ out.old.items ++ canonical_text (design_of named.now)) }
+    ensures restores { OnOk result ((own : Bool) (text : List ℕ) → out.new.items ≡ out.old.items ++ text → IsElaborable own named.now → Restores own text named.now) }
     ensures err { OnErr result (out.new.items ≡ out.old.items) }
 {
     let start = out.len();

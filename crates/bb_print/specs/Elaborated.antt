@@ -1,0 +1,35 @@
+-- What a canonical text elaborates to, where names of one's own are allowed and where not.
+use Rattle.std.specs.Prelude.{◌≡◌, ◌≤◌, ℕ, Bool, true, false, List, All, Result, Ok}
+use Rattle.bb_net.specs.Named.{Named, design_of}
+use Rattle.bb_parse.specs.declared.syntax.Module.{Module}
+use Rattle.bb_elab.specs.declared.fault.ElabFault.{ElabFault}
+use Rattle.bb_elab.specs.Names.{is_reserved}
+use Rattle.bb_elab.specs.Variables.{bit_count, limit_of}
+use Rattle.bb_elab.specs.Outcome.{HasOrder, IsOutcome}
+use Rattle.bb_print.specs.Printed.{IsByBits, IsTextOf}
+
+-- the text has neither a lexical nor a grammatical fault, and its module has this outcome
+pub record ElaboratesTo (own : Bool) (text : List ℕ) (result : Result Named ElabFault) : Type 0 where
+  pub syntax_of : Module
+  pub spells : IsTextOf syntax_of text
+  pub outcome : IsOutcome own syntax_of result
+
+-- names of one's own are allowed, or neither the module nor a variable has one
+abbrev pub HasNamesFor : Bool → Named → Type 0
+HasNamesFor true n = Unit {0}
+HasNamesFor false n = (is_reserved n.module_name ≡ false) × All (λ v. is_reserved v.0 ≡ false) n.variables
+
+-- the netlist has the names and no more bits than a text may have, and no loop
+pub record IsElaborable (own : Bool) (n : Named) : Type 0 where
+  pub names : HasNamesFor own n
+  pub bits : bit_count n.variables ≤ limit_of own
+  pub order : HasOrder n.netlist.gates
+
+-- The text elaborates to a netlist of the same design, and to nothing else. It is the netlist itself where its nets are numbered by
+-- variables and bits.
+pub record Restores (own : Bool) (text : List ℕ) (n : Named) : Type 0 where
+  pub read : Named
+  pub elaborates : ElaboratesTo own text (Ok read)
+  pub only : (result : Result Named ElabFault) → ElaboratesTo own text result → result ≡ Ok read
+  pub design : design_of read ≡ design_of n
+  pub same : IsByBits n → read ≡ n
