@@ -1,18 +1,26 @@
 -- how a call ends, from what was prepared and written
-use Rattle.std.proofs.Common.{◌≡◌, ℕ, ◌≤◌, List, length, Option, Some, ap, sym, ◌∙◌, subst, arith}
+use Rattle.std.proofs.Common.{◌≡◌, ℕ, ◌<◌, ◌≤◌, List, length, Bool, false, Option, Some, Ok, Err, ap, sym, refl, ◌∙◌, subst, arith}
 use Rattle.bb_edge.specs.Told.{Told, Held, Shows, SameBut, KeepsOrStarts, AppendsFront}
 use Rattle.bb_top.specs.Words.{Command, command_of, output_name}
 use Rattle.bb_top.specs.Reads.{IsMade, IsReadable}
-use Rattle.bb_net.specs.Named.{Named, design_of}
-use Rattle.bb_print.specs.Canonical.{canonical_text}
-use Rattle.bb_print.specs.Grammatical.{IsGrammatical}
-use Rattle.bb_print.specs.Limits.{IsNumbered}
+use Rattle.std.specs.Prelude.{Result}
+use Rattle.bb_net.specs.Named.{Named}
+use Rattle.bb_lex.specs.declared.fault.LexFault.{LexFault}
+use Rattle.bb_parse.specs.declared.syntax.Module.{Module}
+use Rattle.bb_parse.specs.declared.fault.ParseFault.{ParseFault}
+use Rattle.bb_parse.specs.declared.fault.ParseFault.TheVariants as grammar
+use Rattle.bb_elab.specs.declared.fault.ElabFault.{ElabFault}
+use Rattle.bb_top.specs.declared.named.ReadFault.{ReadFault}
+use Rattle.bb_top.specs.declared.named.ReadFault.TheVariants as read
+use Rattle.bb_print.specs.Printed.{IsTextOf}
+use Rattle.bb_print.specs.Elaborated.{ElaboratesTo}
+use Rattle.bb_top.specs.Refusals.{Refuses, refusal_line}
 use Rattle.bb_top.specs.declared.refusal.Refusal.{Refusal}
 use Rattle.bb_top.specs.declared.refusal.Refusal.TheVariants as refusals
 use Rattle.bb_top.specs.declared.text.TextFault.{TextFault}
-use Rattle.bb_top.specs.Texts.{IsBroken}
-use Rattle.bb_top.proofs.FewLemmas.{numbered}
-use Rattle.bb_top.specs.Ends.{refusal_line, IsRefused, IsUnwritten, IsUnsaid, Refused, Done, done_line, file_limit}
+use Rattle.bb_top.specs.Texts.{IsBroken, HasLexFault, HasParseFault}
+use Rattle.bb_top.proofs.FlawLemmas.{same_fault}
+use Rattle.bb_top.specs.Ends.{IsRefused, IsDone, IsUnwritten, IsUnsaid, Refused, Done, done_line, file_limit}
 
 -- every other name is as it was
 pub others_same : (old mid new : List ℕ → Told) (name output : List ℕ) → mid ≡ old → name ≡ output → SameBut name mid new → SameBut output old new
@@ -41,6 +49,18 @@ unwritten words old mid new c name made meant same n others kept makes = record 
   others = others_same old mid new name (output_name c) same n others;
 }
 
+-- the output file holds what is made of the input's text
+pub done_is : (words : List (List ℕ)) (old mid new : List ℕ → Told) (c : Command) (name made : List ℕ) → command_of words ≡ Some c
+    → mid ≡ old → name ≡ output_name c → SameBut name mid new → Shows (new name) made
+    → ((text : List ℕ) → old c.input ≡ Held text → (length text ≤ file_limit) × IsMade text made)
+    → IsDone words old new
+done_is words old mid new c name made meant same n others shown makes = record {
+  command = c;
+  meant = meant;
+  file = λ text held. (made, (makes text held).1, subst (λ k. Shows (new k) made) n shown);
+  others = others_same old mid new name (output_name c) same n others;
+}
+
 -- the sink failed at the line of a call that is done
 pub unsaid_done : (words : List (List ℕ)) (old mid new : List ℕ → Told) (told_old told_new : Option (List ℕ)) (c : Command) (name made : List ℕ) → command_of words ≡ Some c
     → mid ≡ old → name ≡ output_name c → SameBut name mid new → Shows (new name) made
@@ -48,23 +68,37 @@ pub unsaid_done : (words : List (List ℕ)) (old mid new : List ℕ → Told) (t
     → AppendsFront told_old told_new done_line → IsUnsaid words old new told_old told_new
 unsaid_done words old mid new told_old told_new c name made meant same n others shown makes line = record {
   answer = Done;
-  files = record {
-    command = c;
-    meant = meant;
-    file = λ text held. (made, (makes text held).1, subst (λ k. Shows (new k) made) n shown);
-    others = others_same old mid new name (output_name c) same n others;
-  };
+  files = done_is words old mid new c name made meant same n others shown makes;
   line = line;
 }
 
 -- a text that is read has no refusal
 pub refused_unreadable :
-    (unbroken : (text : List ℕ) (fault : TextFault) → IsGrammatical text → IsBroken text fault → ⊥) (canonical : (a : Named) → IsNumbered a → IsGrammatical (canonical_text (design_of a)))
+    (unbroken : (text : List ℕ) (m : Module) (fault : TextFault) → IsTextOf m text → IsBroken text fault → ⊥)
+    (one : (own : Bool) (text : List ℕ) (a b : Result Named ElabFault) → ElaboratesTo own text a → ElaboratesTo own text b → a ≡ b)
     (refusal : Refusal) (text : List ℕ) (a : Named) → IsRefused refusal text → length text ≤ file_limit → IsReadable a text → ⊥
-refused_unreadable unbroken canonical refusals.TooLong text a refused small r = omega (arith, refused, small)
-refused_unreadable unbroken canonical (refusals.Broken fault) text a refused small r =
-    unbroken text fault (subst IsGrammatical (sym r.spelled) (canonical a (numbered a r.named r.few))) refused.1
-refused_unreadable unbroken canonical refusals.NotRead text a refused small r = refused.2 a r
+refused_unreadable unbroken one refusals.TooLong text a refused small r = omega (arith, refused, small)
+refused_unreadable unbroken one (refusals.Broken fault) text a refused small r = unbroken text r.syntax_of fault r.spells refused.1
+refused_unreadable unbroken one (refusals.Elab fault) text a refused small r = cc (one false text (Ok a) (Err fault) r refused.1)
+
+-- what is known of a text that gave this fault
+pub record Faulty (fault : ReadFault) (text : List ℕ) : Type 0 where
+  pub too_long : fault ≡ read.TooLong → file_limit < length text
+  pub lex : (f : LexFault) → fault ≡ read.Lex f → (length text ≤ file_limit) × HasLexFault text f
+  pub parse : (f : ParseFault) → fault ≡ read.Parse f → (length text ≤ file_limit) × HasParseFault text f
+  pub elab : (f : ElabFault) → fault ≡ read.Elab f → (length text ≤ file_limit) × ElaboratesTo false text (Err f)
+
+-- the refusal that it is is the text's
+pub refused_by : (fault : ReadFault) (refusal : Refusal) (text : List ℕ) → Refuses fault refusal → Faulty fault text → IsRefused refusal text
+refused_by read.Read refusal text is known = absurd is
+refused_by read.TooLong refusal text is known = subst (λ r. IsRefused r text) (sym is) (known.too_long refl)
+refused_by (read.Lex f) refusal text is known =
+    let h = known.lex f refl in
+    subst (λ r. IsRefused r text) (sym is.2) (h.0, subst (IsBroken text) (same_fault h.1.0 is.0 f h.1.1 is.1) h.1.2)
+refused_by (read.Parse (grammar.Unreadable line)) refusal text is known = subst (λ r. IsRefused r text) (sym is) (known.parse (grammar.Unreadable line) refl)
+refused_by (read.Parse grammar.NoMemory) refusal text is known = absurd is
+refused_by (read.Elab f) refusal text is known = subst (λ r. IsRefused r text) (sym is) (known.elab f refl)
+refused_by read.NoMemory refusal text is known = absurd is
 
 -- one command is meant
 pub same_command : (words : List (List ℕ)) (c d : Command) → command_of words ≡ Some c → command_of words ≡ Some d → c ≡ d

@@ -13,9 +13,8 @@ use Rattle.bb_net.specs.declared.variable.BitName.{BitName}
 use Rattle.bb_net.specs.Bits.{Entry, IsBit, range_width, bit_at}
 use Rattle.bb_net.specs.Named.{Named, IsNamed}
 use Rattle.bb_top.specs.Woven.{IsSmall}
-use Rattle.bb_top.specs.Reads.{bits_of, IsFew}
-use Rattle.bb_print.specs.Limits.{IsBuildable, IsNumbered}
-use Rattle.bb_top.proofs.BitLemmas.{bits_more, bits_le}
+use Rattle.bb_top.specs.Reads.{IsFew}
+use Rattle.bb_top.proofs.BitLemmas.{bits_of, bits_more, bits_le, bits_counted}
 
 -- a bit's number among all bits of the variables
 offset : List Entry → BitName → ℕ
@@ -104,23 +103,8 @@ inputs_few a named = omega (arith, named.names, length-append a.netlist.inputs (
 -- so a netlist with few bits has few of everything
 pub small : (a : Named) → IsNamed a → IsFew a → IsSmall a
 small a named few = record {
-  variables = omega (arith, few, variables_few a.variables);
-  inputs = omega (arith, few, nets_few a named, inputs_few a named);
-  gates = omega (arith, few, nets_few a named, gates_few a named);
-  flops = omega (arith, few, nets_few a named, flops_few a named);
-}
-
--- a netlist with few bits is one that is built
-pub buildable : (a : Named) → IsNamed a → IsFew a → IsBuildable a
-buildable a named few = record {
-  named = named;
-  variables = omega (arith, few, variables_few a.variables);
-  nets = omega (arith, few, nets_few a named);
-}
-
--- and its flip-flops are few enough to be numbered
-pub numbered : (a : Named) → IsNamed a → IsFew a → IsNumbered a
-numbered a named few = record {
-  named = named;
-  flops = omega (arith, few, nets_few a named, flops_few a named);
+  variables = omega (arith, few, bits_counted a.variables, variables_few a.variables);
+  inputs = omega (arith, few, bits_counted a.variables, nets_few a named, inputs_few a named);
+  gates = omega (arith, few, bits_counted a.variables, nets_few a named, gates_few a named);
+  flops = omega (arith, few, bits_counted a.variables, nets_few a named, flops_few a named);
 }

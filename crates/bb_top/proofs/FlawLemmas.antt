@@ -39,7 +39,8 @@ front_good tokens line front bad =
     let all : tokens ++ front.0 ≡ bad.front ++ bad.bad ∷ (bad.rest ++ front.0) = ap (λ ts. ts ++ front.0) bad.tokens_are ∙ append_assoc bad.front (bad.bad ∷ bad.rest) front.0 in
     bad.first.none (bad.rest ++ front.0) front.2.0 (subst (λ ts. file front.2.0 ts []) all front.2.1)
 
-same_fault : (a b : TextFault) (fault : LexFault) → IsFlawOf a fault → IsFlawOf b fault → a ≡ b
+-- one flaw of a lexical fault
+pub same_fault : (a b : TextFault) (fault : LexFault) → IsFlawOf a fault → IsFlawOf b fault → a ≡ b
 same_fault a b (faults.BadByte line) is other = is ∙ sym other
 same_fault a b (faults.BadNumber line) is other = is ∙ sym other
 same_fault a b (faults.LongName line) is other = is ∙ sym other

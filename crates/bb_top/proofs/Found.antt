@@ -58,7 +58,7 @@ found_all f [] d = tt
 found_all f (w ∷ ws) d = (ap (λ (b : Bool). if b then w else find_wire f ws (f w)) ((text_decides (f w) (f w)).1 refl), found_behind f w ws ws d.0 (found_all f ws d.1))
 
 -- what holds of all items holds of a net that stands there
-standing : (Q : ℕ → Type 0) (net : ℕ) (nets : List ℕ) → 1 ≤ times net nets → AllByRecursion Q nets → Q net
+pub standing : (Q : ℕ → Type 0) (net : ℕ) (nets : List ℕ) → 1 ≤ times net nets → AllByRecursion Q nets → Q net
 standing Q net [] h all = absurd (omega arith)
 standing Q net (m ∷ nets) h all = by (m == net) refl (λ more. standing Q net nets more all.1)
   where

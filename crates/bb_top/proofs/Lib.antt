@@ -13,5 +13,8 @@ pub mod WriteLemmas
 pub mod BitLemmas
 pub mod EndLemmas
 pub mod FewLemmas
+pub mod MadeBits
 pub mod TextLemmas
 pub mod FlawLemmas
+pub mod RunLemmas
+pub mod DesignRuns

@@ -1,6 +1,7 @@
 -- What a reader has read of a text, and what that says of the whole text.
 use Rattle.std.proofs.Common.{◌≡◌, ◌⊎◌, ◌↔◌, inl, inr, ℕ, List, [], ◌∷◌, ◌++◌, refl, sym, ap, ◌∙◌, subst, append_assoc, append-nil, length, arith, Ok, Err}
-use Rattle.std.specs.Prelude.{Result}
+use Rattle.std.specs.Prelude.{Result, IfOk, IfErr}
+use Rattle.std.specs.List.{AllByRecursion}
 use Rattle.bb_lex.specs.declared.token.Token.{Token}
 use Rattle.bb_lex.specs.declared.fault.LexFault.{LexFault}
 use Rattle.bb_lex.specs.declared.fault.LexFault.TheVariants as faults
@@ -12,7 +13,9 @@ use Rattle.bb_parse.specs.declared.fault.ParseFault.TheVariants as grammar
 use Rattle.bb_parse.specs.Machine as parsing
 use Rattle.bb_parse.specs.Standing as standing
 use Rattle.bb_parse.specs.Meaning as meaning
-use Rattle.bb_print.specs.Grammatical.{IsGrammatical}
+use Rattle.bb_lex.specs.Ranges.{IsRanged, IsSound}
+use Rattle.bb_parse.specs.Sound.{IsSoundModule}
+use Rattle.bb_print.specs.Printed.{IsTextOf}
 use Rattle.bb_top.specs.declared.text.Flaw.TheVariants.{Unreadable}
 use Rattle.bb_top.specs.declared.text.TextFault.{TextFault}
 use Rattle.bb_top.specs.Texts.{HasBadToken, Breaks, IsBroken, IsFlawOf}
@@ -24,6 +27,31 @@ pub record LexerLaws : Type 0 where
   pub pieces : (m : lexing.Machine) (piece rest : List ℕ) → lexing.run m (piece ++ rest) ≡ lexing.run (lexing.run m piece) rest
   pub taken : (earlier : List Token) (m : lexing.Machine) (bytes : List ℕ) → lexing.run (lexing.after_tokens earlier m) bytes ≡ lexing.after_tokens earlier (lexing.run m bytes)
   pub taken_at_end : (earlier : List Token) (m : lexing.Machine) → lexing.close (lexing.after_tokens earlier m) ≡ lexing.after_tokens earlier (lexing.close m)
+
+-- the numbers in its tokens are in their ranges
+pub record RangeLaws : Type 0 where
+  pub start : IsSound lexing.start
+  pub run : (m : lexing.Machine) (bytes : List ℕ) → IsSound m → IsSound (lexing.run m bytes)
+  pub close : (m : lexing.Machine) → IsSound m → IsSound (lexing.close m)
+
+-- what holds of two lists holds of both together, and what holds of both holds of the second
+all_of_both : {A : Type 0} (P : A → Type 0) (xs ys : List A) → AllByRecursion P xs → AllByRecursion P ys → AllByRecursion P (xs ++ ys)
+all_of_both P [] ys h k = k
+all_of_both P (x ∷ xs) ys h k = (h.0, all_of_both P xs ys h.1 k)
+
+all_of_second : {A : Type 0} (P : A → Type 0) (xs ys : List A) → AllByRecursion P (xs ++ ys) → AllByRecursion P ys
+all_of_second P [] ys h = h
+all_of_second P (x ∷ xs) ys h = all_of_second P xs ys h.1
+
+-- one more token that a text may have
+pub one_proper : (tokens : List Token) (t : Token) → (AllByRecursion IsRanged tokens → AllByRecursion meaning.IsProper tokens) → (IsRanged t → meaning.IsProper t)
+    → AllByRecursion IsRanged (tokens ++ t ∷ []) → AllByRecursion meaning.IsProper (tokens ++ t ∷ [])
+one_proper tokens t before last all =
+    all_of_both meaning.IsProper tokens (t ∷ []) (before (all_of_first tokens (t ∷ []) all)) (last (all_of_second IsRanged tokens (t ∷ []) all).0, tt)
+  where
+    all_of_first : (xs ys : List Token) → AllByRecursion IsRanged (xs ++ ys) → AllByRecursion IsRanged xs
+    all_of_first [] ys h = tt
+    all_of_first (x ∷ xs) ys h = (h.0, all_of_first xs ys h.1)
 
 -- what is known of the parser
 pub record ParserLaws : Type 0 where
@@ -103,17 +131,26 @@ tokens_grow laws now piece rest =
     let closed = ap lexing.close split ∙ laws.taken_at_end m.tokens (lexing.run (lexing.seen m.now []) rest) in
     ((lexing.close (lexing.run (lexing.seen m.now []) rest)).tokens, ap (λ (k : lexing.Machine). k.tokens) closed)
 
+-- the last tokens of a machine in range are in range
+last_ranged : (m : lexing.Machine) (earlier out : List Token) → IsSound m → m.tokens ≡ earlier ++ out → AllByRecursion IsRanged out
+last_ranged m earlier out sound same = all_of_second IsRanged earlier out (subst (AllByRecursion IsRanged) same sound.tokens)
+
 -- a piece is read, and its tokens are taken
 pub read_on :
-    (lexer_laws : LexerLaws) (parser_laws : ParserLaws) (text piece : List ℕ) (old new : Reading) (out : List Token) → HasRead text old
-    → lexing.seen new.lexer out ≡ ahead old.lexer piece → lexing.told new.lexer.mode ≡ Ok tt → new.parser ≡ parsing.run old.parser out → standing.told new.parser ≡ Ok tt → HasRead (text ++ piece) new
-read_on lexer_laws parser_laws text piece old new out h seen going parsed goes = record {
-  tokens = h.tokens ++ out;
-  lexed = whole_run lexer_laws text piece old h ∙ (ap (lexing.after_tokens h.tokens) (sym seen) ∙ ap (lexing.at new.lexer.mode new.lexer.line) (sym (append-nil (h.tokens ++ out))));
-  parsed = parsed ∙ (ap (λ p. parsing.run p out) h.parsed ∙ sym (parser_laws.parts parsing.start h.tokens out));
-  no_lexical = going;
-  no_grammatical = goes;
-}
+    (lexer_laws : LexerLaws) (ranges : RangeLaws) (parser_laws : ParserLaws) (text piece : List ℕ) (old new : Reading) (out : List Token) → HasRead text old
+    → lexing.seen new.lexer out ≡ ahead old.lexer piece → lexing.told new.lexer.mode ≡ Ok tt → new.parser ≡ parsing.run old.parser out → standing.told new.parser ≡ Ok tt
+    → (AllByRecursion IsRanged out → AllByRecursion meaning.IsProper out) → HasRead (text ++ piece) new
+read_on lexer_laws ranges parser_laws text piece old new out h seen going parsed goes proper =
+    let all : lexing.run lexing.start (text ++ piece) ≡ lexing.after_tokens h.tokens (lexing.seen new.lexer out) = whole_run lexer_laws text piece old h ∙ ap (lexing.after_tokens h.tokens) (sym seen) in
+    let ranged = last_ranged (lexing.run lexing.start (text ++ piece)) h.tokens out (ranges.run lexing.start (text ++ piece) ranges.start) (ap (λ (m : lexing.Machine). m.tokens) all) in
+    record {
+      tokens = h.tokens ++ out;
+      lexed = all ∙ ap (lexing.at new.lexer.mode new.lexer.line) (sym (append-nil (h.tokens ++ out)));
+      proper = all_of_both meaning.IsProper h.tokens out h.proper (proper ranged);
+      parsed = parsed ∙ (ap (λ p. parsing.run p out) h.parsed ∙ sym (parser_laws.parts parsing.start h.tokens out));
+      no_lexical = going;
+      no_grammatical = goes;
+    }
 
 -- the parser over all tokens so far
 parser_all : (laws : ParserLaws) (text : List ℕ) (r : Reading) (h : HasRead text r) (tokens : List Token) → parsing.run parsing.start (h.tokens ++ tokens) ≡ parsing.run r.parser tokens
@@ -256,34 +293,47 @@ ended_lexeme lexer_laws parser_laws text r now out f fault h stands told going s
 pub record Ended (text : List ℕ) (r : Reading) (tokens : List Token) (line : ℕ) : Type 0 where
   pub all : List Token
   pub reads : lexical.Denotes text all (Ok line)
+  pub proper : AllByRecursion meaning.IsProper all
   pub parsed : parsing.run parsing.start all ≡ parsing.run r.parser tokens
   pub front : meaning.IsFront all
 
 pub ended :
-    (lexer_laws : LexerLaws) (parser_laws : ParserLaws) (text : List ℕ) (r : Reading) (now : lexing.Lexing) (out : List Token) (line : ℕ)
-    → HasRead text r → lexing.seen now out ≡ lexing.close (lexing.seen r.lexer []) → Ok line ≡ lexing.answer_by now.mode now.line → standing.told (parsing.run r.parser out) ≡ Ok tt → Ended text r out line
-ended lexer_laws parser_laws text r now out line h seen told going =
+    (lexer_laws : LexerLaws) (ranges : RangeLaws) (parser_laws : ParserLaws) (text : List ℕ) (r : Reading) (now : lexing.Lexing) (out : List Token) (line : ℕ)
+    → HasRead text r → lexing.seen now out ≡ lexing.close (lexing.seen r.lexer []) → Ok line ≡ lexing.answer_by now.mode now.line → standing.told (parsing.run r.parser out) ≡ Ok tt
+    → (AllByRecursion IsRanged out → AllByRecursion meaning.IsProper out) → Ended text r out line
+ended lexer_laws ranges parser_laws text r now out line h seen told going proper =
     let reads = whole_tokens lexer_laws text [] r h in
     let tokens : h.tokens ++ (lexing.close (ahead r.lexer [])).tokens ≡ h.tokens ++ out = ap (λ (m : lexing.Machine). h.tokens ++ m.tokens) (sym seen) in
     let end : lexing.answer (lexing.close (ahead r.lexer [])) ≡ Ok line = ap lexing.answer (sym seen) ∙ sym told in
     let all = parser_all parser_laws text r h out in
+    let closed : lexing.close (lexing.run lexing.start (text ++ [])) ≡ lexing.after_tokens h.tokens (lexing.close (ahead r.lexer [])) =
+    ap lexing.close (whole_run lexer_laws text [] r h) ∙ lexer_laws.taken_at_end h.tokens (ahead r.lexer []) in
+    let ranged = last_ranged (lexing.close (lexing.run lexing.start (text ++ []))) h.tokens out (ranges.close (lexing.run lexing.start (text ++ [])) (ranges.run lexing.start (text ++ []) ranges.start))
+    (ap (λ (m : lexing.Machine). m.tokens) closed ∙ tokens) in
     record {
       all = h.tokens ++ out;
       reads = subst (λ whole. lexical.Denotes whole (h.tokens ++ out) (Ok line)) (same_text text)
           (subst (λ e. lexical.Denotes (text ++ []) (h.tokens ++ out) e) end (subst (λ ts. lexical.Denotes (text ++ []) ts (lexing.answer (lexing.close (ahead r.lexer [])))) tokens reads));
+      proper = all_of_both meaning.IsProper h.tokens out h.proper (proper ranged);
       parsed = all;
       front = going_front parser_laws (h.tokens ++ out) (ap standing.told all ∙ going);
     }
 
 -- they are a whole module
-pub ended_whole : (laws : ParserLaws) (text : List ℕ) (r : Reading) (tokens : List Token) (line : ℕ) (value : Module) → Ended text r tokens line → parsing.end (parsing.run r.parser tokens) line ≡ Ok value → IsGrammatical text
+pub ended_whole : (laws : ParserLaws) (text : List ℕ) (r : Reading) (tokens : List Token) (line : ℕ) (value : Module) → Ended text r tokens line → parsing.end (parsing.run r.parser tokens) line ≡ Ok value → IsTextOf value text
 ended_whole laws text r tokens line value e end = record {
   tokens = e.all;
   line = line;
   reads = e.reads;
-  syntax_of = value;
   derives = (laws.exact e.all value line).1 (ap (λ p. parsing.end p line) e.parsed ∙ end);
 }
+
+-- which has names for names, and numbers in their ranges
+pub ended_sound :
+    (laws : ParserLaws) (sound : (tokens : List Token) (value : Module) → AllByRecursion meaning.IsProper tokens → meaning.Denotes tokens value → IsSoundModule value)
+    (text : List ℕ) (r : Reading) (tokens : List Token) (line : ℕ) (value : Module) → Ended text r tokens line → parsing.end (parsing.run r.parser tokens) line ≡ Ok value → IsSoundModule value
+unfolding ended_whole
+ended_sound laws sound text r tokens line value e end = sound e.all value e.proper (ended_whole laws text r tokens line value e end).derives
 
 -- or they are cut short
 pub ended_short :
@@ -314,6 +364,7 @@ part_starts text lexer parser fresh none = record {
   read = record {
     tokens = [];
     lexed = sym fresh;
+    proper = tt;
     parsed = none;
     no_lexical = ap (λ (m : lexing.Machine). lexing.told m.now.mode) fresh;
     no_grammatical = ap standing.told none;
@@ -337,3 +388,25 @@ part_ends text rest r p empty = subst (λ bytes. HasRead bytes r) (sym (append-n
 pub no_bytes : (bytes : List ℕ) → length bytes ≡ 0 → bytes ≡ []
 no_bytes [] e = refl
 no_bytes (b ∷ bytes) e = absurd (omega (arith, e))
+
+-- what is known of a value, and of a fault
+pub of_value : {T E : Type 0} (P : T → Type 0) (result : Result T E) (x : T) → result ≡ Ok x → IfOk result P → P x
+of_value P result x is known = subst (λ r. IfOk r P) is known
+
+pub of_fault : {T E : Type 0} (P : E → Type 0) (result : Result T E) (x : E) → result ≡ Err x → IfErr result P → P x
+of_fault P result x is known = subst (λ r. IfErr r P) is known
+
+-- what the end of the whole text says of it
+pub whole_at_end : {E : Type 0} (result : Result (Result Module TextFault) E) (text : List ℕ) (r : Reading) → HasRead text r
+    → IfOk result (λ found. IfOk found (λ value. (all : List ℕ) → HasRead all r → IsTextOf value all × IsSoundModule value))
+    → IfOk result (λ found. IfOk found (λ value. IsTextOf value text × IsSoundModule value))
+whole_at_end (Ok (Ok value)) text r h says = says text h
+whole_at_end (Ok (Err fault)) text r h says = tt
+whole_at_end (Err e) text r h says = tt
+
+pub broken_at_end : {E : Type 0} (result : Result (Result Module TextFault) E) (text : List ℕ) (r : Reading) → HasRead text r
+    → IfOk result (λ found. IfErr found (λ fault. (all : List ℕ) → HasRead all r → IsBroken all fault))
+    → IfOk result (λ found. IfErr found (λ fault. IsBroken text fault))
+broken_at_end (Ok (Ok value)) text r h says = tt
+broken_at_end (Ok (Err fault)) text r h says = says text h
+broken_at_end (Err e) text r h says = tt

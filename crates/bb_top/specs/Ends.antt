@@ -1,23 +1,17 @@
 -- How a call may end, and what the files then hold. The lines and the limit are this project's own.
-use Rattle.std.specs.Prelude.{◌≡◌, ◌<◌, ◌≤◌, ℕ, List, ◌++◌, length, codes, decimal, Option, Some, None}
+use Rattle.std.specs.Prelude.{◌≡◌, ◌<◌, ◌≤◌, ℕ, false, List, length, codes, Option, Some, None, Err}
 use Rattle.bb_edge.specs.Told.{Told, Held, Shows, SameBut, KeepsOrStarts, AppendsFront}
 use Rattle.bb_top.specs.Words.{Command, command_of, output_name}
-use Rattle.bb_net.specs.Named.{Named}
-use Rattle.bb_print.specs.Grammatical.{IsGrammatical}
 use Rattle.bb_top.specs.declared.refusal.Refusal.{Refusal}
-use Rattle.bb_top.specs.declared.refusal.Refusal.TheVariants.{TooLong, Broken, NotRead}
-use Rattle.bb_top.specs.Texts.{IsBroken, flaw_words}
-use Rattle.bb_top.specs.Reads.{IsReadable, IsMade}
+use Rattle.bb_top.specs.declared.refusal.Refusal.TheVariants.{TooLong, Broken, Elab}
+use Rattle.bb_top.specs.Texts.{IsBroken}
+use Rattle.bb_print.specs.Elaborated.{ElaboratesTo}
+use Rattle.bb_top.specs.Reads.{IsMade}
+use Rattle.bb_top.specs.Refusals.{refusal_line}
 
 -- the most bytes of the input
 abbrev pub file_limit : ℕ
 file_limit = 67108864
-
--- the line of a refusal
-abbrev pub refusal_line : Refusal → List ℕ
-refusal_line TooLong = codes "refused input: too long\n"
-refusal_line (Broken fault) = codes "refused input: line " ++ (decimal fault.line ++ (codes " " ++ (flaw_words fault.flaw ++ codes "\n")))
-refusal_line NotRead = codes "refused input: not yet read\n"
 
 -- the line of words that mean no command
 abbrev pub usage_line : List ℕ
@@ -27,11 +21,11 @@ usage_line = codes "usage: bilbo compile IN PREFIX\n"
 abbrev pub done_line : List ℕ
 done_line = codes "done\n"
 
--- the text has this refusal: it is too long, or else it is no module's text, or else the text of no netlist that is read
+-- the text has this refusal: it is too long, or else it is no module's text, or else its module has this fault
 abbrev pub IsRefused : Refusal → List ℕ → Type 0
 IsRefused TooLong text = file_limit < length text
 IsRefused (Broken fault) text = (length text ≤ file_limit) × IsBroken text fault
-IsRefused NotRead text = (length text ≤ file_limit) × IsGrammatical text × ((a : Named) → IsReadable a text → ⊥)
+IsRefused (Elab fault) text = (length text ≤ file_limit) × ElaboratesTo false text (Err fault)
 
 -- the call is done: the output file is made of the input's text, and no other file changed
 pub record IsDone (words : List (List ℕ)) (old new : List ℕ → Told) : Type 0 where

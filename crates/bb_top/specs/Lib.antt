@@ -6,6 +6,7 @@ pub mod Layout
 pub mod Woven
 pub mod Words
 pub mod Reads
-pub mod Ends
 pub mod Texts
+pub mod Refusals
+pub mod Ends
 pub mod TextReading

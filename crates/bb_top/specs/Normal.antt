@@ -46,3 +46,7 @@ pub record RunsAlike (a b : Netlist Bit) : Type 0 where
   -- every run of a is such a run of b, for every list of `bt_init` bits and every start of the added flip-flops
   pub as_written : (s extra inits : List Bool) (is : List (List Bool)) (vs : List (Bit → Bool)) → IsRun a s is vs → length inits ≡ length is → length a.flops + length extra ≡ length b.flops
       → (ws : List (Bit → Bool)) × IsRun b (s ++ extra) (with_init is inits) ws × AgreeAt (driven a) vs ws
+
+-- from every start and for every list of inputs the netlist has a run
+abbrev pub HasRuns : Netlist Bit → Type 0
+HasRuns n = (s : List Bool) (is : List (List Bool)) → length s ≡ length n.flops → AllByRecursion (λ i. length i ≡ length n.inputs) is → (vs : List (Bit → Bool)) × IsRun n s is vs

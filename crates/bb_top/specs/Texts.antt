@@ -4,11 +4,15 @@ use Rattle.bb_lex.specs.declared.token.Token.{Token}
 use Rattle.bb_lex.specs.declared.fault.LexFault.{LexFault}
 use Rattle.bb_lex.specs.declared.fault.LexFault.TheVariants as faults
 use Rattle.bb_lex.specs.Text as lexical
+use Rattle.bb_parse.specs.declared.fault.ParseFault.{ParseFault}
+use Rattle.bb_parse.specs.declared.fault.ParseFault.TheVariants as grammar
 use Rattle.bb_parse.specs.declared.syntax.Module.{Module}
 use Rattle.bb_parse.specs.Meaning as meaning
 use Rattle.bb_top.specs.declared.text.Flaw.{Flaw}
 use Rattle.bb_top.specs.declared.text.Flaw.TheVariants.{BadByte, BadNumber, LongName, OpenComment, Unreadable}
 use Rattle.bb_top.specs.declared.text.TextFault.{TextFault}
+use Rattle.bb_top.specs.declared.named.ReadFault.{ReadFault}
+use Rattle.bb_top.specs.declared.named.ReadFault.TheVariants.{Lex, Parse}
 
 -- no module begins with the tokens up to one in this line, and some module begins with those before it
 pub record HasBadToken (tokens : List Token) (line : ℕ) : Type 0 where
@@ -48,6 +52,23 @@ pub record IsBroken (text : List ℕ) (fault : TextFault) : Type 0 where
   pub end : Result ℕ LexFault
   pub reads : lexical.Denotes text tokens end
   pub breaks : Breaks tokens end fault.flaw fault.line
+
+-- the text's first flaw is this lexical fault
+abbrev pub HasLexFault : List ℕ → LexFault → Type 0
+HasLexFault text fault = (flaw : TextFault) × IsFlawOf flaw fault × IsBroken text flaw
+
+-- the text's first flaw is this fault of the grammar
+abbrev pub HasParseFault : List ℕ → ParseFault → Type 0
+HasParseFault text (grammar.Unreadable line) = IsBroken text (record { line = line; flaw = Unreadable })
+HasParseFault text grammar.NoMemory = ⊥
+
+-- what a reader answers of a flaw in this line
+abbrev pub reader_fault : Flaw → ℕ → ReadFault
+reader_fault BadByte line = Lex (faults.BadByte line)
+reader_fault BadNumber line = Lex (faults.BadNumber line)
+reader_fault LongName line = Lex (faults.LongName line)
+reader_fault OpenComment line = Lex (faults.OpenComment line)
+reader_fault Unreadable line = Parse (grammar.Unreadable line)
 
 -- the words of a flaw
 abbrev pub flaw_words : Flaw → List ℕ

@@ -1,6 +1,7 @@
-use crate::bilbo;
+use crate::benchmark::{BACK, FRONT, MADE, PLAIN};
+use crate::{bilbo, read_named};
 use bb_edge::{Fail, MemSink, MemStore, Step};
-use bb_net::{Driver, Named, NetId};
+use bb_net::{Driver, Named, NetId, Op, Order};
 use bb_print::read_canonical;
 use std::alloc::{AllocError, Global};
 use std::test::Fail as TestFail;
@@ -72,21 +73,114 @@ fn a_half_adder_gets_a_bypassed_cell_at_each_input(rt: HostRuntime) -> Result<()
 }
 
 #[test]
-fn a_text_that_is_not_canonical_is_refused(rt: HostRuntime) -> Result<(), TestFail> {
+fn the_same_module_in_two_forms_is_made_the_same_but_for_its_wires(
+    rt: HostRuntime,
+) -> Result<(), TestFail> {
+    let rows = [(PLAIN, ""), (MADE, "wire \\u.clk ;\n")];
+    for (text, wire) in rows {
+        let thin = format!(in rt.alloc(); "{FRONT}{wire}{BACK}")?;
+        let outcome = compiles(rt.alloc(), text.as_bytes(), "done\n", thin.as_str())?;
+        assert_eq!(rt; outcome, (0, true, true), "{text}");
+    }
+    Ok(())
+}
+
+/// Whether a text is refused with these words, and nothing is written.
+fn is_refused(alloc: Global, text: &str, words: &str) -> Result<bool, AllocError> {
+    let line = format!(in alloc; "refused input: {words}\n")?;
+    let outcome = compiles(alloc, text.as_bytes(), line.as_str(), "old")?;
+    Ok(outcome == (1, true, true))
+}
+
+#[test]
+fn a_module_is_refused_by_its_first_fault(rt: HostRuntime) -> Result<(), TestFail> {
+    // Each row mends the fault of the one before.
     let rows = [
-        "module half (a, y);\ninput  a;\noutput y;\nbuf (y, a);\nendmodule\n",
-        "module bt_half (a, y);\ninput a;\noutput y;\nbuf (y, a);\nendmodule\n",
-        "module half (bt_a, y);\ninput bt_a;\noutput y;\nbuf (y, bt_a);\nendmodule\n",
-        "module half (a, y);\ninput [2097151:0] a;\noutput y;\nbuf (y, a[0]);\nendmodule\n",
+        (
+            "wire bt_x;\nnot (p, a);\nnot (p, a);\nand (y, p, u);",
+            "clk",
+            "reserved bt_x",
+        ),
+        (
+            "not (p, a);\nnot (p, a);\nand (y, p, u);",
+            "clk",
+            "two drivers p",
+        ),
+        ("not (p, a);\nand (y, p, u);", "clk", "undriven u"),
+        ("not (p, a);\nand (y, p, a);", "clk", "clock as data clk"),
+        ("not (p, a);\nand (y, p, a);", "a", "loop through l, 1 nets"),
     ];
-    for text in rows {
-        let outcome = compiles(
-            rt.alloc(),
-            text.as_bytes(),
-            "refused input: not yet read\n",
-            "old",
+    for (gates, data, words) in rows {
+        let text = format!(in rt.alloc();
+            "module bad (clk, a, y);\ninput clk, a;\noutput y;\n{gates}\nand (l, l, a);\ndff f (clk, q, {data});\nendmodule\n"
         )?;
-        assert_eq!(rt; outcome, (1, true, true), "{text:?}");
+        assert!(rt; is_refused(rt.alloc(), text.as_str(), words)?, "{words}");
+    }
+    Ok(())
+}
+
+#[test]
+fn each_fault_of_a_module_has_its_words(rt: HostRuntime) -> Result<(), TestFail> {
+    let rows = [
+        ("module bt_m (a);\ninput a;", "reserved bt_m"),
+        ("module m (input a, input a);", "redeclared a"),
+        ("module m (a, b);\ninput a;", "bad port b"),
+        (
+            "module m (a);\ninput [2097152:0] a;",
+            "too many bits 2097153 over 2097152",
+        ),
+        (
+            "module m (a, y);\ninput [2097150:0] a;\noutput y;\nassign y = ~(~a[0]);",
+            "too many bits 2097153 over 2097152",
+        ),
+        (
+            "module m (a, y);\ninput a;\noutput y;\n\\$_LATCH_ u (.A(a), .Y(y));",
+            "unknown cell \\$_LATCH_",
+        ),
+        (
+            "module m (a, y);\ninput a;\noutput y;\nbuf\n(y);",
+            "line 4 bad pins",
+        ),
+        (
+            "module m (a, y);\ninput a;\noutput y;\nbuf (y, a[0]);",
+            "line 4 bad select",
+        ),
+        (
+            "module m (a, y);\ninput [1:0] a;\noutput y;\nassign y = a;",
+            "line 4 width differs",
+        ),
+        (
+            "module m (a, y);\ninput a;\noutput y;\nassign y = {65537{a}};",
+            "line 4 too wide",
+        ),
+        (
+            "module m (y);\noutput [0:1] y;\nassign y[0] = 1'b0;",
+            "undriven y[1]",
+        ),
+        (
+            "module m (y);\noutput y;\nwire [1:0] \\u.v ;\nbuf (y, \\u.v [1]);",
+            "undriven \\u.v[1]",
+        ),
+        (
+            "module m (y);\noutput y;\nbuf (y, \\and );",
+            "undriven \\and",
+        ),
+        (
+            "module m (c, a, q);\ninput c, a;\noutput q;\nnot (n, c);\ndff f (n, q, a);",
+            "clock not input n",
+        ),
+        (
+            "module m (c, k, a, q, r);\ninput c, a;\ninput [1:0] k;\noutput q, r;\ndff f (c, q, a), g (k[1], r, a);",
+            "two clocks c and k[1]",
+        ),
+        (
+            "module m (a, y);\ninput a;\noutput y;\nand (y, a, p);\nnot (p, y);",
+            "loop through y, 2 nets",
+        ),
+    ];
+    for (front, words) in rows {
+        let text = format!(in rt.alloc(); "{front}\nendmodule\n")?;
+        assert!(rt; is_refused(rt.alloc(), text.as_str(), words)?, "{words}");
     }
     Ok(())
 }
@@ -114,19 +208,173 @@ fn a_text_that_is_no_modules_is_refused_by_its_first_flaw(rt: HostRuntime) -> Re
             "line 2 open comment",
         ),
     ];
-    for (text, flaw) in rows {
-        let line = format!(in rt.alloc(); "refused input: {flaw}\n")?;
-        let outcome = compiles(rt.alloc(), text.as_bytes(), line.as_str(), "old")?;
-        assert_eq!(rt; outcome, (1, true, true), "{text:?}");
+    for (text, words) in rows {
+        assert!(rt; is_refused(rt.alloc(), text, words)?, "{text:?}");
     }
     Ok(())
 }
 
 #[test]
-fn a_text_of_one_byte_too_many_is_too_long(rt: HostRuntime) -> Result<(), TestFail> {
-    let text = vec![in rt.alloc(); b' '; 67_108_865]?;
-    let outcome = compiles(rt.alloc(), &text, "refused input: too long\n", "old")?;
-    assert_eq!(rt; outcome, (1, true, true));
+fn a_text_of_one_byte_too_many_is_too_long_whatever_it_says(
+    rt: HostRuntime,
+) -> Result<(), TestFail> {
+    for first in [b' ', b'#'] {
+        let mut text = vec![in rt.alloc(); b' '; 67_108_865]?;
+        text[0] = first;
+        let outcome = compiles(rt.alloc(), &text, "refused input: too long\n", "old")?;
+        assert_eq!(rt; outcome, (1, true, true));
+    }
+    Ok(())
+}
+
+#[test]
+fn a_fault_of_reading_comes_before_one_of_the_text(rt: HostRuntime) -> Result<(), TestFail> {
+    let mut text = vec![in rt.alloc(); b' '; 100_000]?;
+    text[0] = b'#';
+    let fail = Fail {
+        step: Step::Piece,
+        nth: 1,
+    };
+    let outcome = ends(
+        rt.alloc(),
+        &words_of(rt.alloc(), "compile half.v out")?,
+        &text,
+        (vec![in rt.alloc(); fail; 1]?, None),
+        ("", "old"),
+    )?;
+    assert_eq!(rt; outcome, (3, true, true));
+    Ok(())
+}
+
+/// The first gate in the order of a netlist that is read, where names of one's own may begin with `bt_` or not.
+fn first_gate(alloc: Global, text: &str, own: bool) -> Result<Option<u32>, AllocError> {
+    let mut store = MemStore::new(alloc, Vec::new(alloc));
+    store.set("in.v", text.as_bytes())?;
+    match read_named(alloc, &mut store, "in.v", own, 1_000) {
+        Ok((_, order)) => Ok(order.gates().first().copied()),
+        Err(_) => Ok(None),
+    }
+}
+
+#[test]
+fn names_of_ones_own_are_read_where_they_are_allowed(rt: HostRuntime) -> Result<(), TestFail> {
+    let text = "module m (a, y); input a; output y; buf (y, bt_w); not (bt_w, a); endmodule";
+    assert_eq!(rt; first_gate(rt.alloc(), text, true)?, Some(1));
+    assert_eq!(rt; first_gate(rt.alloc(), text, false)?, None);
+    Ok(())
+}
+
+/// An operator's word.
+fn op_text(op: Op) -> &'static str {
+    match op {
+        Op::And => "and",
+        Op::Nand => "nand",
+        Op::Or => "or",
+        Op::Nor => "nor",
+        Op::Xor => "xor",
+        Op::Xnor => "xnor",
+        Op::Not => "not",
+        Op::Buf => "buf",
+        Op::Zero => "zero",
+        Op::One => "one",
+    }
+}
+
+/// The gates and flip-flops of a netlist by numbers of nets, and then the order of gates.
+fn netlist_text(alloc: Global, named: &Named, order: &Order) -> Result<String, AllocError> {
+    let mut text = String::new(alloc);
+    for gate in named.netlist().gates() {
+        let part = format!(in alloc; "{} {}", op_text(gate.op), gate.out.0)?;
+        text.push_str(part.as_str())?;
+        for net in gate.ins.as_slice() {
+            let part = format!(in alloc; " {}", net.0)?;
+            text.push_str(part.as_str())?;
+        }
+        text.push_str("; ")?;
+    }
+    for flop in named.netlist().flops() {
+        let part = format!(in alloc; "dff {} {}; ", flop.q.0, flop.d.0)?;
+        text.push_str(part.as_str())?;
+    }
+    text.push_str("order")?;
+    for gate in order.gates() {
+        let part = format!(in alloc; " {gate}")?;
+        text.push_str(part.as_str())?;
+    }
+    Ok(text)
+}
+
+/// The netlist that a text denotes.
+fn denoted(alloc: Global, text: &str) -> Result<String, AllocError> {
+    let mut store = MemStore::new(alloc, Vec::new(alloc));
+    store.set("in.v", text.as_bytes())?;
+    match read_named(alloc, &mut store, "in.v", false, 10_000) {
+        Ok((named, order)) => netlist_text(alloc, &named, &order),
+        Err(_) => format!(in alloc; "a fault"),
+    }
+}
+
+#[test]
+fn a_module_denotes_its_netlist(rt: HostRuntime) -> Result<(), TestFail> {
+    let rows = [
+        (
+            PLAIN,
+            "not 14 0; not 4 11; and 8 14 6; or 15 12 8; or 16 3 8; nand 9 16 15; nor 10 14 11; nor 11 5 9; nor 12 1 7; nor 13 2 12; dff 5 10; dff 6 11; dff 7 13; order 0 8 2 9 3 4 5 7 1 6",
+        ),
+        (
+            "module m (s, a, b, c, y); input s; input [1:0] a; input [0:1] b; input [1:0] c; output [1:0] y; assign y = s ? a & ~b | c : {c[0], 1'b0}; endmodule",
+            "not 9 3; not 10 4; and 11 1 9; and 12 2 10; or 13 11 5; or 14 12 6; zero 15; not 16 0; and 17 0 13; and 18 16 6; or 7 17 18; and 19 0 14; and 20 16 15; or 8 19 20; order 0 1 6 7 2 3 9 12 4 5 8 11 10 13",
+        ),
+        (
+            "module t (k, y); input [0:1] k; output y; dff f (k[1], y, k[0]); endmodule",
+            "dff 1 0; order",
+        ),
+        (
+            "module t (k, d, y); input k, d; output y; wire j; buf (j, k); dff f (j, y, d); endmodule",
+            "dff 1 0; order",
+        ),
+        (
+            "module t (a, y); input a; output y; assign y = 1'b1 | (a & 1'b0); endmodule",
+            "zero 2; and 3 0 2; one 4; or 1 4 3; order 0 2 1 3",
+        ),
+        (
+            "module t (a, s, y); input a, s; output y; wire b; not (b, a); \\$_MUX_ u (.S(s), .Y(y), .B(b), .A(a)); endmodule",
+            "not 3 0; not 4 1; and 5 1 3; and 6 4 0; or 2 5 6; order 0 1 2 3 4",
+        ),
+    ];
+    for (text, wanted) in rows {
+        assert!(rt; denoted(rt.alloc(), text)?.as_str() == wanted, "{text}");
+    }
+    Ok(())
+}
+
+#[test]
+fn faults_of_nets_name_the_least_net(rt: HostRuntime) -> Result<(), TestFail> {
+    let rows = [
+        ("buf (a, b); buf (y, a);", "two drivers a"),
+        (
+            "buf (w, a); buf (z, a); buf (w, b); buf (z, b); buf (y, b);",
+            "two drivers w",
+        ),
+        ("dff f (g, y, a); buf (g, g);", "clock not input g"),
+        (
+            "wire x, z; dff f (z, y, b); dff g (x, w, b); not (x, z, a);",
+            "clock not input x",
+        ),
+        ("dff f (a, q, q); buf (y, a);", "clock as data y"),
+        ("dff f (a, q, q); and (y, a);", "clock as data a"),
+        ("dff f (b, y, b);", "clock as data b"),
+        (
+            "and (y, a, q); buf (q, r); not (r, q);",
+            "loop through q, 2 nets",
+        ),
+    ];
+    for (body, words) in rows {
+        let text = format!(in rt.alloc();
+            "module m (a, b, y); input a, b; output y;\n{body}\nendmodule\n"
+        )?;
+        assert!(rt; is_refused(rt.alloc(), text.as_str(), words)?, "{body}");
+    }
     Ok(())
 }
 

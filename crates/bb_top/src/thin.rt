@@ -1,7 +1,8 @@
 //! The thin netlist, from its ports to its last row.
 //!
-//! A builder refuses nothing here: the names are new, the nets are few, and each has its driver. That is argued and not proved,
-//! so a refusal would be answered as want of memory, the one answer that says nothing of the netlist.
+//! A builder refuses nothing here: the names are new, as the only ones of the original that may begin with `bt_` are those of made
+//! wires, `bt_w` and a number; the nets are few; and each has its driver. That is argued and not proved, so a refusal would be
+//! answered as want of memory, the one answer that says nothing of the netlist.
 
 ghost use Rattle.std.specs.Prelude.{◌≡◌, ◌+◌, ◌++◌, [], length, map, take, IfOk, OnOk, Some};
 ghost use Rattle.bb_net.specs.Net.{renamed_gate, renamed_flop};

@@ -6,16 +6,18 @@ ghost use Rattle.bb_edge.specs.Told.{Held, AppendsAll};
 ghost use Rattle.bb_top.specs.Words.{command_of, output_name, Command as CommandValue};
 ghost use Rattle.bb_top.specs.Reads.{IsReadable, IsMade};
 ghost use Rattle.bb_top.specs.declared.refusal.Refusal.{Refusal as RefusalValue};
-ghost use Rattle.bb_top.specs.Ends.{IsRefused, IsDone, IsRefusal, IsUnwritten, IsUnsaid, file_limit, refusal_line, usage_line, done_line};
+ghost use Rattle.bb_top.specs.Refusals.{Refuses, refusal_line};
+ghost use Rattle.bb_top.specs.Ends.{IsRefused, IsDone, IsRefusal, IsUnwritten, IsUnsaid, file_limit, usage_line, done_line};
 
-use crate::laws::one_flaw;
-use crate::make::{MakeFault, make};
-use crate::read::{ReadFault, read_whole};
+use crate::laws::{one_flaw, one_outcome_of};
+use crate::make::make;
+use crate::named::{ReadFault, read_named};
 use crate::refusal::{Refusal, line_of};
+use crate::text::{Flaw, TextFault, flaw_of};
 use crate::words::{Command, command_in};
 use crate::write::write_whole;
 use bb_edge::{Failed, Sink, Store};
-use bb_print::canonical_is_grammatical;
+use bb_parse::ParseFault;
 use std::alloc::Global;
 
 /// The most bytes of the input.
@@ -26,6 +28,29 @@ enum Stop {
     Read,
     Refused(Refusal),
     NoMemory,
+}
+
+/// What stops a call by a fault of reading.
+fn stop_of(fault: ReadFault) -> Stop
+    ensures read { result ≡ Stop.Read → fault ≡ ReadFault.Read }
+    ensures refused { (refusal : RefusalValue) → result ≡ Stop.Refused refusal → Refuses fault refusal }
+{
+    match fault {
+        ReadFault::Read => Stop::Read,
+        ReadFault::TooLong => Stop::Refused(Refusal::TooLong),
+        ReadFault::Lex(fault) => match flaw_of(fault) {
+            Ok(flaw) => Stop::Refused(Refusal::Broken(flaw)),
+            Err(_) => Stop::NoMemory,
+        },
+        ReadFault::Parse(ParseFault::Unreadable { line }) => {
+            Stop::Refused(Refusal::Broken(TextFault {
+                line,
+                flaw: Flaw::Unreadable,
+            }))
+        }
+        ReadFault::Elab(fault) => Stop::Refused(Refusal::Elab(fault)),
+        ReadFault::Parse(ParseFault::NoMemory) | ReadFault::NoMemory => Stop::NoMemory,
+    }
 }
 
 /// Reads a file and makes what is to be written.
@@ -39,17 +64,13 @@ fn prepare<S: Store>(alloc: Global, store: &mut S, input: &str) -> Result<Vec<u8
     ensures writing { S.writing store.new ≡ S.writing store.old }
     ensures write_faults { S.write_faults store.new ≡ S.write_faults store.old }
 {
-    let text = match read_whole(alloc, store, input, FILE_LIMIT) {
-        Ok(text) => text,
-        Err(ReadFault::Read) => return Err(Stop::Read),
-        Err(ReadFault::TooLong) => return Err(Stop::Refused(Refusal::TooLong)),
-        Err(ReadFault::NoMemory) => return Err(Stop::NoMemory),
+    let named = match read_named(alloc, store, input, false, FILE_LIMIT) {
+        Ok((named, _order)) => named,
+        Err(fault) => return Err(stop_of(fault)),
     };
-    match make(alloc, &text) {
+    match make(alloc, &named) {
         Ok(made) => Ok(made),
-        Err(MakeFault::Broken(fault)) => Err(Stop::Refused(Refusal::Broken(fault))),
-        Err(MakeFault::NotRead) => Err(Stop::Refused(Refusal::NotRead)),
-        Err(MakeFault::NoMemory) => Err(Stop::NoMemory),
+        Err(_) => Err(Stop::NoMemory),
     }
 }
 
@@ -85,7 +106,7 @@ pub fn bilbo<S: Store, K: Sink>(alloc: Global, words: &[String], store: &mut S, 
         → IsRefused refusal text → (result ≢ 0) × (result ≢ 2) }
 {
     one_flaw();
-    canonical_is_grammatical();
+    one_outcome_of();
     let Some(Command { input, prefix }) = command_in(words) else {
         return match out.put(b"usage: bilbo compile IN PREFIX\n") {
             Ok(()) => 2,
@@ -97,10 +118,10 @@ pub fn bilbo<S: Store, K: Sink>(alloc: Global, words: &[String], store: &mut S, 
         Err(Stop::Read) => return 3,
         Err(Stop::NoMemory) => return 5,
         Err(Stop::Refused(refusal)) => {
-            let Ok(line) = line_of(alloc, refusal) else {
+            let Ok(line) = line_of(alloc, &refusal) else {
                 return 5;
             };
-            match out.put(line.as_bytes()) {
+            match out.put(&line) {
                 Ok(()) => return 1,
                 Err(_) => return 4,
             }

@@ -3,13 +3,14 @@ use Rattle.bb_net.specs.Named.{design_of}
 use Rattle.bb_print.specs.Canonical.{canonical_text}
 use Rattle.bb_top.proofs.make.make.Goals as goal
 
-pub returns-clause-made : goal.returns-clause-made
-returns-clause-made c = record {
-  original = c.in_ok-named.named;
+pub returns : goal.returns
+returns c = λ text readable. record {
+  original = c.args.named.now;
   thin = c.in_ok-woven.woven;
-  readable = c.in_ok-named.ensures.read;
+  readable = readable;
+  runs = λ s is. c.ordered_netlists_run.ensures c.args.named.now readable.outcome.3.0 s is readable.outcome.2 readable.outcome.3.1;
   named = c.variables-count.ensures.named;
   woven = c.in_ok-woven.ensures;
-  alike = c.runs_alike.ensures c.in_ok-named.named c.in_ok-woven.woven c.in_ok-named.ensures.read.named c.variables-count.ensures.named c.in_ok-woven.ensures;
+  alike = c.runs_alike.ensures c.args.named.now c.in_ok-woven.woven readable.outcome.2 c.variables-count.ensures.named c.in_ok-woven.ensures;
   spelled = c.in_ok-print.ensures.ok ∙ ap (λ z. z ++ canonical_text (design_of c.in_ok-woven.woven)) c.new-made.ensures.items;
 }

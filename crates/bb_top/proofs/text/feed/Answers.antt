@@ -5,7 +5,7 @@ use Rattle.bb_top.specs.declared.text.TextFault.{TextFault}
 use Rattle.bb_top.specs.declared.text.Flaw.TheVariants as Flaw
 use Rattle.bb_top.specs.TextReading.{HasRead}
 use Rattle.bb_top.specs.Texts.{IsBroken}
-use Rattle.bb_top.proofs.TextLemmas.{LexerLaws, ParserLaws, FaultStands, read_on, fed_lexeme, fed_token}
+use Rattle.bb_top.proofs.TextLemmas.{LexerLaws, RangeLaws, ParserLaws, FaultStands, read_on, fed_lexeme, fed_token}
 use Rattle.bb_top.proofs.text.feed.Goals as goal
 
 pub returns-clause-goes_on : goal.returns-clause-goes_on
@@ -14,11 +14,13 @@ returns-clause-goes_on c = λ e text h.
     let parser_laws : ParserLaws = record { exact = c.one_module.ensures.exact; stands = c.first_bad_token.ensures.stands; any = c.first_bad_token.ensures.any; parts = c.in_parts.ensures.parts; fault = c.in_parts.ensures.fault } in
     let old : HasRead text (record { lexer = c.args.lexer.now; parser = c.args.parser.now }) = h in
     let none = ap Ok c.in_default.is in
-    read_on lexer_laws parser_laws text c.args.piece.now (record { lexer = c.args.lexer.now; parser = c.args.parser.now }) (record { lexer = c.feed-fed.new.self; parser = c.parse_all.new.parser }) c.feed-fed.new.out.items old
+    let ranges : RangeLaws = record { start = c.in_range.ensures.start; run = c.in_range.ensures.run; close = c.in_range.ensures.close } in
+    read_on lexer_laws ranges parser_laws text c.args.piece.now (record { lexer = c.args.lexer.now; parser = c.args.parser.now }) (record { lexer = c.feed-fed.new.self; parser = c.parse_all.new.parser }) c.feed-fed.new.out.items old
     (c.in_default-fed.ensures.stands ∙ ap (λ ts. lexing.run (lexing.seen c.args.lexer.now ts) c.args.piece.now) c.new-tokens.ensures.items)
     (sym c.in_default-fed.ensures.told)
     (c.in_ok-line.ensures.none none)
     (c.in_ok-line.ensures.going none old.no_grammatical)
+    (c.in_ok-line.ensures.proper none)
 
 pub returns-in-Err-clause-broken : goal.returns-in-Err-clause-broken
 returns-in-Err-clause-broken c = λ fault e text rest h.

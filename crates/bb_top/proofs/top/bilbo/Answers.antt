@@ -2,9 +2,9 @@ use Rattle.std.proofs.Common.{rules, ◌≡◌, ◌∙◌, map, Some, string_byt
 use Rattle.bb_edge.specs.Causes.{Rose}
 use Rattle.bb_top.specs.Words.{output_name, command_of, Command}
 use Rattle.bb_edge.specs.Told.{AppendsFront}
-use Rattle.bb_top.specs.Ends.{refusal_line}
+use Rattle.bb_top.specs.Refusals.{refusal_line}
 use Rattle.bb_top.specs.Reads.{IsMade}
-use Rattle.bb_top.proofs.EndLemmas.{refused_unreadable, same_command, unsaid_refused, unsaid_done, unwritten}
+use Rattle.bb_top.proofs.EndLemmas.{refused_unreadable, same_command, unsaid_refused, unsaid_done, unwritten, done_is}
 use Rattle.bb_top.proofs.top.bilbo.Goals as goal
 
 pub prepare-requires : goal.prepare-requires
@@ -21,7 +21,7 @@ write_whole-requires-clause-may g c =
 
 pub returns-in-Err-put-clause-write : goal.returns-in-Err-put-clause-write
 returns-in-Err-put-clause-write g c = λ _.
-    let line : c.as_bytes.result.now ≡ refusal_line c.in-Err-Refused.refusal = search rules in
+    let line : c.deref.result.now ≡ refusal_line c.in-Err-Refused.refusal = search rules in
     inr (
       c.in-Err-put.ensures.cause.failed,
       unsaid_refused c.in-Err-Refused.refusal _ (g.S.Store.holds c.args.store.now) (g.S.Store.holds c.prepare.new.store) (g.K.Sink.told c.args.out.now) (g.K.Sink.told c.put-in-Err-Refused.new.self) (record { input = c.in-Some.field-0.input.now; prefix = c.in-Some.field-0.prefix.now })
@@ -35,7 +35,7 @@ returns-in-Ok-put-clause-complete g c = λ d text a meant held small readable.
     let known : command_of (map (λ w. string_bytes w) c.args.words.now) ≡ Some command = search rules in
     let same : d ≡ command = same_command (map (λ w. string_bytes w) c.args.words.now) d command meant known in
     let here = ap (λ (k : Command). g.S.Store.holds c.args.store.now k.input) (sym same) ∙ held in
-    let never = refused_unreadable c.one_flaw.ensures.unbroken c.canonical_is_grammatical.ensures c.in-Err-Refused.refusal text a
+    let never = refused_unreadable c.one_flaw.ensures.unbroken c.one_outcome_of.ensures c.in-Err-Refused.refusal text a
     (c.in-Err-Refused.ensures.refused c.in-Err-Refused.refusal (search rules) text here) small readable in
     absurd never
 
@@ -46,7 +46,7 @@ returns-in-Ok-put-2-clause-always_refused g c = λ d text refusal meant held ref
     let same : d ≡ command = same_command (map (λ w. string_bytes w) c.args.words.now) d command meant known in
     let here = ap (λ (k : Command). g.S.Store.holds c.args.store.now k.input) (sym same) ∙ held in
     let made = c.in-Ok-prepare.ensures.made text here in
-    absurd (refused_unreadable c.one_flaw.ensures.unbroken c.canonical_is_grammatical.ensures refusal text made.1.original refused made.0 made.1.readable)
+    absurd (refused_unreadable c.one_flaw.ensures.unbroken c.one_outcome_of.ensures refusal text made.1.original refused made.0 made.1.readable)
 
 pub returns-in-Err-write_whole-clause-write : goal.returns-in-Err-write_whole-clause-write
 returns-in-Err-write_whole-clause-write g c =
@@ -58,8 +58,8 @@ returns-in-Err-write_whole-clause-write g c =
       subst (λ n. Rose n (g.S.Store.write_faults c.write_whole.new.store)) c.prepare.ensures.write_faults c.in-Err-write_whole.ensures.cause.failed,
       refl,
       unwritten _ (g.S.Store.holds c.args.store.now) (g.S.Store.holds c.prepare.new.store) (g.S.Store.holds c.write_whole.new.store) command
-          c.as_str.result.now c.deref.result.now (search rules) c.in-Ok-prepare.ensures.contents named c.write_whole.ensures.others c.in-Err-write_whole.ensures.partly
-          (λ text h. let m = c.in-Ok-prepare.ensures.made text h in (m.0, subst (IsMade text) (sym c.deref.ensures.value) m.1)),
+          c.as_str.result.now c.deref-2.result.now (search rules) c.in-Ok-prepare.ensures.contents named c.write_whole.ensures.others c.in-Err-write_whole.ensures.partly
+          (λ text h. let m = c.in-Ok-prepare.ensures.made text h in (m.0, subst (IsMade text) (sym c.deref-2.ensures.value) m.1)),
     )
 
 pub returns-clause-write : goal.returns-clause-write
@@ -71,7 +71,19 @@ returns-clause-write g c =
     inr (
       c.in-Err-put-2.ensures.cause.failed,
       unsaid_done _ (g.S.Store.holds c.args.store.now) (g.S.Store.holds c.prepare.new.store) (g.S.Store.holds c.write_whole.new.store) (g.K.Sink.told c.args.out.now) (g.K.Sink.told c.put-2.new.self) command
-          c.as_str.result.now c.deref.result.now (search rules) c.in-Ok-prepare.ensures.contents named c.write_whole.ensures.others c.in-Ok-write_whole.ensures.whole
-          (λ text h. let m = c.in-Ok-prepare.ensures.made text h in (m.0, subst (IsMade text) (sym c.deref.ensures.value) m.1))
+          c.as_str.result.now c.deref-2.result.now (search rules) c.in-Ok-prepare.ensures.contents named c.write_whole.ensures.others c.in-Ok-write_whole.ensures.whole
+          (λ text h. let m = c.in-Ok-prepare.ensures.made text h in (m.0, subst (IsMade text) (sym c.deref-2.ensures.value) m.1))
           c.in-Err-put-2.ensures.front,
+    )
+
+pub returns-in-Ok-put-2-clause-done : goal.returns-in-Ok-put-2-clause-done
+returns-in-Ok-put-2-clause-done g c =
+    let command : Command = record { input = c.in-Some.field-0.input.now; prefix = c.in-Some.field-0.prefix.now } in
+    let same : c.in-Some.field-0.prefix.now ≡ c.in-Some.prefix.now = search rules in
+    let named : c.as_str.result.now ≡ output_name command = search rules in
+    λ _. (
+      done_is _ (g.S.Store.holds c.args.store.now) (g.S.Store.holds c.prepare.new.store) (g.S.Store.holds c.write_whole.new.store) command
+          c.as_str.result.now c.deref-2.result.now (search rules) c.in-Ok-prepare.ensures.contents named c.write_whole.ensures.others c.in-Ok-write_whole.ensures.whole
+          (λ text h. let m = c.in-Ok-prepare.ensures.made text h in (m.0, subst (IsMade text) (sym c.deref-2.ensures.value) m.1)),
+      c.in-Ok-put-2.ensures.all,
     )

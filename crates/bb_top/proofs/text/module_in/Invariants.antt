@@ -1,7 +1,7 @@
 use Rattle.std.proofs.Common.{length}
 use Rattle.bb_top.specs.TextReading.{reading}
 use Rattle.bb_top.proofs.TextLemmas.{Part}
-use Rattle.bb_top.proofs.text.flaw_in.Given as goal
+use Rattle.bb_top.proofs.text.module_in.Given as goal
 
 abbrev pub invariant-pieces : goal.invariant-pieces
 invariant-pieces l = Part l.text l.rest (reading l.lexer l.parser)

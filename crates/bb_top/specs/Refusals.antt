@@ -1,0 +1,64 @@
+-- The lines of refusals. Their words are this project's own.
+use Rattle.std.specs.Prelude.{◌≡◌, ℕ, List, [], ◌∷◌, ◌++◌, codes, decimal, Option, if◌then◌else◌}
+use Rattle.bb_elab.specs.declared.fault.ElabFault.{ElabFault}
+use Rattle.bb_elab.specs.declared.fault.ElabFault.TheVariants.{Reserved, Redeclared, BadPort, TooMany, UnknownCell, BadPins, BadSelect, WidthDiffers, TooWide, TwoDrivers, Undriven, ClockNotInput, TwoClocks, ClockAsData, Loop, NoMemory}
+use Rattle.bb_print.specs.Spelling.{is_plain, spelled_index}
+use Rattle.bb_top.specs.declared.refusal.Refusal.{Refusal}
+use Rattle.bb_top.specs.declared.refusal.Refusal.TheVariants.{TooLong, Broken, Elab}
+use Rattle.bb_parse.specs.declared.fault.ParseFault.TheVariants as grammar
+use Rattle.bb_top.specs.declared.named.ReadFault.{ReadFault}
+use Rattle.bb_top.specs.declared.named.ReadFault.TheVariants as read
+use Rattle.bb_top.specs.declared.text.Flaw.TheVariants.{Unreadable}
+use Rattle.bb_top.specs.declared.text.TextFault.{TextFault}
+use Rattle.bb_top.specs.Texts.{IsFlawOf, flaw_words}
+
+-- a name in a line: as texts spell it, but with no space behind an escaped one
+unfoldable pub said_name : List ℕ → List ℕ
+said_name name = if is_plain name then name else 92 ∷ name
+
+-- a name, and the index of a vector's bit
+abbrev pub said : List ℕ → Option ℕ → List ℕ
+said name select = said_name name ++ spelled_index select
+
+-- words behind the line that they speak of
+abbrev pub at_line : ℕ → List ℕ → List ℕ
+at_line line words = codes "line " ++ (decimal line ++ (codes " " ++ words))
+
+-- the words of a fault of elaboration
+abbrev pub elab_words : ElabFault → List ℕ
+elab_words (Reserved name select) = codes "reserved " ++ said name select
+elab_words (Redeclared name select) = codes "redeclared " ++ said name select
+elab_words (BadPort name select) = codes "bad port " ++ said name select
+elab_words (TooMany count limit) = codes "too many bits " ++ (decimal count ++ (codes " over " ++ decimal limit))
+elab_words (UnknownCell name select) = codes "unknown cell " ++ said name select
+elab_words (BadPins line) = at_line line (codes "bad pins")
+elab_words (BadSelect line) = at_line line (codes "bad select")
+elab_words (WidthDiffers line) = at_line line (codes "width differs")
+elab_words (TooWide line) = at_line line (codes "too wide")
+elab_words (TwoDrivers name select) = codes "two drivers " ++ said name select
+elab_words (Undriven name select) = codes "undriven " ++ said name select
+elab_words (ClockNotInput name select) = codes "clock not input " ++ said name select
+elab_words (TwoClocks first second) = codes "two clocks " ++ (said first.0 first.1 ++ (codes " and " ++ said second.0 second.1))
+elab_words (ClockAsData name select) = codes "clock as data " ++ said name select
+elab_words (Loop name select count) = codes "loop through " ++ (said name select ++ (codes ", " ++ (decimal count ++ codes " nets")))
+elab_words NoMemory = []
+
+-- the words of a refusal
+abbrev pub refusal_words : Refusal → List ℕ
+refusal_words TooLong = codes "too long"
+refusal_words (Broken fault) = at_line fault.line (flaw_words fault.flaw)
+refusal_words (Elab fault) = elab_words fault
+
+-- the line of a refusal
+abbrev pub refusal_line : Refusal → List ℕ
+refusal_line refusal = codes "refused input: " ++ (refusal_words refusal ++ codes "\n")
+
+-- the refusal that a reader's fault is
+abbrev pub Refuses : ReadFault → Refusal → Type 0
+Refuses read.Read refusal = ⊥
+Refuses read.TooLong refusal = refusal ≡ TooLong
+Refuses (read.Lex fault) refusal = (flaw : TextFault) × IsFlawOf flaw fault × (refusal ≡ Broken flaw)
+Refuses (read.Parse (grammar.Unreadable line)) refusal = refusal ≡ Broken (record { line = line; flaw = Unreadable })
+Refuses (read.Parse grammar.NoMemory) refusal = ⊥
+Refuses (read.Elab fault) refusal = refusal ≡ Elab fault
+Refuses read.NoMemory refusal = ⊥

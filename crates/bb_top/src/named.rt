@@ -1,0 +1,112 @@
+//! The named netlist that the text of a file denotes.
+
+ghost use Rattle.std.specs.Prelude.{◌≡◌, ◌<◌, ◌≤◌, ℕ, List, length, IfOk, IsErrOf, Ok, Err};
+ghost use Rattle.bb_edge.specs.Causes.{Rose};
+ghost use Rattle.bb_edge.specs.Told.{Held};
+ghost use Rattle.bb_lex.specs.declared.fault.LexFault.{LexFault as LexValue};
+ghost use Rattle.bb_net.specs.Order.{IsOrder};
+ghost use Rattle.bb_parse.specs.declared.fault.ParseFault.{ParseFault as ParseValue};
+ghost use Rattle.bb_elab.specs.declared.fault.ElabFault.{ElabFault as ElabValue};
+ghost use Rattle.bb_elab.specs.Variables.{bit_count, limit_of};
+ghost use Rattle.bb_print.specs.Elaborated.{ElaboratesTo};
+ghost use Rattle.bb_top.specs.Texts.{HasLexFault, HasParseFault, reader_fault};
+
+use crate::read::{WholeFault, read_whole};
+use crate::text::{Flaw, TextFault, module_in};
+use bb_edge::Store;
+use bb_elab::{ElabFault, counted_nets_are_made, elaborate};
+use bb_lex::LexFault;
+use bb_net::{Named, Order};
+use bb_parse::ParseFault;
+use std::alloc::Global;
+
+/// Why a file gives no named netlist.
+#[derive(Drop)]
+pub enum ReadFault {
+    /// The store failed.
+    Read,
+    /// More bytes come than the limit.
+    TooLong,
+    /// The first thing in the text that is no token.
+    Lex(LexFault),
+    /// The first place in the text at which no module goes on.
+    Parse(ParseFault),
+    /// The first fault of the text's module.
+    Elab(ElabFault),
+    /// Memory ran out.
+    NoMemory,
+}
+
+/// What is answered of a text's first flaw.
+fn fault_of(fault: TextFault) -> ReadFault
+    ensures { result ≡ reader_fault fault.flaw fault.line }
+{
+    let line = fault.line;
+    match fault.flaw {
+        Flaw::BadByte => ReadFault::Lex(LexFault::BadByte { line }),
+        Flaw::BadNumber => ReadFault::Lex(LexFault::BadNumber { line }),
+        Flaw::LongName => ReadFault::Lex(LexFault::LongName { line }),
+        Flaw::OpenComment => ReadFault::Lex(LexFault::OpenComment { line }),
+        Flaw::Unreadable => ReadFault::Parse(ParseFault::Unreadable { line }),
+    }
+}
+
+/// The named netlist that a text denotes, and the order of its gates, or the text's first fault.
+fn named_in(alloc: Global, text: &[u8], own: bool) -> Result<(Named, Order), ReadFault>
+    ensures named { IfOk result (λ found. ElaboratesTo own text.now (Ok found.0)) }
+    ensures order { IfOk result (λ found. IsOrder found.0.netlist.gates found.1) }
+    ensures bits { IfOk result (λ found. bit_count found.0.variables ≤ limit_of own) }
+    ensures lex { (fault : LexValue) → IsErrOf result (ReadFault.Lex fault) → HasLexFault text.now fault }
+    ensures parse { (fault : ParseValue) → IsErrOf result (ReadFault.Parse fault) → HasParseFault text.now fault }
+    ensures elab { (fault : ElabValue) → IsErrOf result (ReadFault.Elab fault) → ElaboratesTo own text.now (Err fault) }
+    ensures no_read { IsErrOf result ReadFault.Read → ⊥ }
+    ensures no_length { IsErrOf result ReadFault.TooLong → ⊥ }
+{
+    counted_nets_are_made();
+    let syntax = match module_in(alloc, text) {
+        Ok(Ok(syntax)) => syntax,
+        Ok(Err(flaw)) => return Err(fault_of(flaw)),
+        Err(_) => return Err(ReadFault::NoMemory),
+    };
+    match elaborate(alloc, &syntax, own) {
+        Ok(found) => Ok(found),
+        Err(ElabFault::NoMemory) => Err(ReadFault::NoMemory),
+        Err(fault) => Err(ReadFault::Elab(fault)),
+    }
+}
+
+/// The named netlist that a file's text denotes, and the order of its gates. `own` allows names that begin with `bt_` and the
+/// larger limit on bits.
+///
+/// A fault of the text is answered once all of it was read. Of lexical and grammatical faults the earlier in the text is answered,
+/// and those of its module come last.
+pub fn read_named<S: Store>(
+    alloc: Global,
+    store: &mut S,
+    name: &str,
+    own: bool,
+    limit: u64,
+) -> Result<(Named, Order), ReadFault>
+    requires { S.may_read name.now }
+    ensures named { IfOk result (λ found. (text : List ℕ) → S.holds store.old name.now ≡ Held text → (length text ≤ limit) × ElaboratesTo own text (Ok found.0)) }
+    ensures order { IfOk result (λ found. IsOrder found.0.netlist.gates found.1) }
+    // The wires of made nets are among the variables.
+    ensures bits { IfOk result (λ found. bit_count found.0.variables ≤ limit_of own) }
+    ensures read { IsErrOf result ReadFault.Read → Rose (S.read_faults store.old) (S.read_faults store.new) }
+    ensures too_long { IsErrOf result ReadFault.TooLong → (text : List ℕ) → S.holds store.old name.now ≡ Held text → limit < length text }
+    ensures lex { (fault : LexValue) → IsErrOf result (ReadFault.Lex fault) → (text : List ℕ) → S.holds store.old name.now ≡ Held text → (length text ≤ limit) × HasLexFault text fault }
+    ensures parse { (fault : ParseValue) → IsErrOf result (ReadFault.Parse fault) → (text : List ℕ) → S.holds store.old name.now ≡ Held text → (length text ≤ limit) × HasParseFault text fault }
+    ensures elab { (fault : ElabValue) → IsErrOf result (ReadFault.Elab fault) → (text : List ℕ) → S.holds store.old name.now ≡ Held text → (length text ≤ limit) × ElaboratesTo own text (Err fault) }
+    ensures later { S.read_faults store.old ≤ S.read_faults store.new }
+    ensures contents { S.holds store.new ≡ S.holds store.old }
+    ensures writing { S.writing store.new ≡ S.writing store.old }
+    ensures write_faults { S.write_faults store.new ≡ S.write_faults store.old }
+{
+    let text = match read_whole(alloc, store, name, limit) {
+        Ok(text) => text,
+        Err(WholeFault::Read) => return Err(ReadFault::Read),
+        Err(WholeFault::TooLong) => return Err(ReadFault::TooLong),
+        Err(WholeFault::NoMemory) => return Err(ReadFault::NoMemory),
+    };
+    named_in(alloc, &text, own)
+}
