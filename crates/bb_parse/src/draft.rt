@@ -26,6 +26,7 @@ pub(crate) struct Draft {
     /// The name of a pin whose value may follow.
     pub pin: Option<Name>,
     pub left: Sequence<Ref>,
+    /// The steps of the expression. Most have one, so a new list has room for one.
     pub steps: Expr,
     pub terms: Sequence<Expr>,
     pub pins: Sequence<(Name, Option<Expr>)>,
@@ -169,7 +170,7 @@ impl Draft {
     {
         let line = self.line;
         let left = mem::replace(&mut self.left, Sequence::new(alloc));
-        let right = mem::replace(&mut self.steps, Sequence::new(alloc));
+        let right = mem::replace(&mut self.steps, Sequence::with_room(alloc)?);
         self.items.push(Item::Assign { line, left, right })
     }
 
@@ -177,7 +178,7 @@ impl Draft {
     pub fn term_done(&mut self, alloc: Global) -> Result<(), AllocError>
         ensures { OnOk result (self.new ≡ term_done self.old) }
     {
-        let term = mem::replace(&mut self.steps, Sequence::new(alloc));
+        let term = mem::replace(&mut self.steps, Sequence::with_room(alloc)?);
         self.terms.push(term)
     }
 
@@ -212,7 +213,7 @@ impl Draft {
         let Some(name) = self.pin.take() else {
             return Ok(());
         };
-        self.steps = Sequence::new(alloc);
+        self.steps = Sequence::with_room(alloc)?;
         self.pins.push((name, None))
     }
 
@@ -223,7 +224,7 @@ impl Draft {
         let Some(name) = self.pin.take() else {
             return Ok(());
         };
-        let value = mem::replace(&mut self.steps, Sequence::new(alloc));
+        let value = mem::replace(&mut self.steps, Sequence::with_room(alloc)?);
         self.pins.push((name, Some(value)))
     }
 }

@@ -1,4 +1,4 @@
-ghost use Rattle.std.specs.Prelude.{◌≡◌, [], ◌∷◌, ◌++◌, OnOk, OnErr};
+ghost use Rattle.std.specs.Prelude.{◌≡◌, [], ◌∷◌, ◌++◌, OnOk, OnErr, IfOk};
 
 use std::alloc::{AllocError, Global};
 use std::marker::Model;
@@ -28,6 +28,15 @@ impl<T: Drop> Sequence<T> {
         Sequence {
             items: Vec::new(alloc),
         }
+    }
+
+    /// No item, and room for one.
+    pub fn with_room(alloc: Global) -> Result<Sequence<T>, AllocError>
+        ensures { IfOk result (λ list. list ≡ []) }
+    {
+        Ok(Sequence {
+            items: Vec::with_capacity(alloc, 1)?,
+        })
     }
 
     /// One more item, behind the others.
