@@ -2,6 +2,7 @@ pub mod Rows
 pub mod Keys
 pub mod SaidLaws
 pub mod TableLaws
+pub mod UsedLaws
 pub mod CellLaws
 pub mod SizeLaws
 pub mod TextLaws
@@ -17,6 +18,7 @@ pub mod DriverTests
 pub mod DriverFaults
 pub mod MadeNames
 pub mod ScopeLaws
+pub mod UseLaws
 pub mod Grounding
 pub mod StepLaws
 pub mod OriginLaws

@@ -1,40 +1,19 @@
 -- Names of made nets, and the variables that they are added to.
-use Rattle.std.proofs.Common.{arith, ◌≡◌, ℕ, suc, ◌+◌, ◌-◌, ◌%◌, ◌<◌, ◌≤◌, ◌^◌, take, length-append, All, Bool, true, false, not, ◌||◌, cond, List, [], ◌∷◌, ◌++◌, map, append_assoc, refl, sym, ap, ◌∙◌, decimal}
-use Rattle.std.specs.Prelude.{Some, is_some, filter, codes}
-use Rattle.std.specs.List.{AllByRecursion, range_with_len}
+use Rattle.std.proofs.Common.{arith, ◌≡◌, ℕ, suc, ◌+◌, ◌-◌, ◌<◌, ◌≤◌, ◌^◌, take, Bool, true, false, not, ◌||◌, cond, List, [], ◌∷◌, ◌++◌, map, append_assoc, refl, sym, ap, ◌∙◌, decimal}
+use Rattle.std.specs.Prelude.{Some, is_some, filter}
+use Rattle.std.specs.List.{range_with_len}
 use Rattle.std.specs.Map.{lookup}
 use Rattle.std.specs.Str.{bytes_eq}
-use Rattle.std.proofs.lemmas.List.Elements.{All-append, All-from_recursion}
 use Rattle.std.proofs.lemmas.List.Folds.{list_any-append}
-use Rattle.std.proofs.lemmas.Fmt.{decimal_by_steps, length-decimal-le, decimal_nonempty, decimal_injective}
-use Rattle.bb_net.specs.Name.{IsName, IsNameByte}
+use Rattle.std.proofs.lemmas.Fmt.{decimal_injective}
 use Rattle.bb_net.specs.Bits.{Entry}
 use Rattle.bb_net.specs.declared.variable.Variable.{Variable}
-use Rattle.bb_net.proofs.Lists.{all_join}
 use Rattle.indexmap.specs.IndexMap.{insert_entry}
 use Rattle.bb_elab.specs.Nets.{is_variable, made_name, made_variable}
 use Rattle.bb_elab.proofs.Keys.{same_name, or_false, put_behind}
 use Rattle.bb_elab.proofs.Tallied.{range_next}
 
 -- names -------------------------------------------------------------------
-
-decimal_plain : (n : ℕ) → n < 2 ^ 64 → All IsNameByte (decimal n)
-decimal_plain n h =
-    All-from_recursion IsNameByte (decimal n)
-    (decimal_by_steps (λ m ds. AllByRecursion IsNameByte ds) (λ m less. ((omega arith, omega arith), tt))
-    (λ m ds past k. let digit : m % 10 < 10 = omega arith in all_join IsNameByte ds ((48 + m % 10) ∷ []) k ((omega arith, omega arith), tt)) n h)
-
-front_plain : AllByRecursion IsNameByte (codes "bt_w")
-front_plain = ((omega arith, omega arith), ((omega arith, omega arith), ((omega arith, omega arith), ((omega arith, omega arith), tt))))
-
-pub made_is_name : (n : ℕ) → n < 2 ^ 64 → IsName (made_name n)
-made_is_name n small =
-    let long = length-decimal-le 20 n (omega arith) (omega arith) (omega arith) in
-    record {
-      some = omega (arith, length-append (codes "bt_w") (decimal n), decimal_nonempty n small);
-      short = omega (arith, length-append (codes "bt_w") (decimal n), long);
-      plain = All-append IsNameByte (codes "bt_w") (decimal n) (All-from_recursion IsNameByte (codes "bt_w") front_plain) (decimal_plain n small);
-    }
 
 numbers_differ : (j k : ℕ) → k < j → j < 2 ^ 64 → bytes_eq (made_name j) (made_name k) ≡ false
 numbers_differ j k less small = go (bytes_eq (made_name j) (made_name k)) refl

@@ -124,7 +124,7 @@ entries_sound m s =
 -- made variables ----------------------------------------------------------
 
 -- the bytes of a number are digits
-decimal_plain : (k : ℕ) → k < 2 ^ 64 → AllByRecursion IsNameByte (decimal k)
+pub decimal_plain : (k : ℕ) → k < 2 ^ 64 → AllByRecursion IsNameByte (decimal k)
 decimal_plain k small =
     decimal_by_steps (λ n ds. AllByRecursion IsNameByte ds) (λ n one. ((omega (arith, one), omega (arith, one)), tt))
     (λ n ds ten all. all_join IsNameByte ds ((48 + n % 10) ∷ []) all ((omega arith, omega arith), tt)) k small

@@ -1,78 +1,92 @@
--- The numbers of bits by one look-up.
+-- The places of bits, and the next use of a name.
 use Rattle.std.proofs.Common.{arith, ◌≡◌, ℕ, zero, suc, ◌+◌, ◌-◌, ◌<◌, ◌≤◌, drop, slice_get, Bool, true, false, not, cond, length, List, [], ◌∷◌, refl, sym, ap, ◌∙◌}
 use Rattle.std.proofs.lemmas.Bool.Decides.{nat_tests}
-use Rattle.std.specs.Prelude.{Option, Some, None, slice_index_or, nat_lt, nat_le, ◌&&◌}
-use Rattle.std.specs.Map.{lookup, keys_of}
-use Rattle.std.specs.List.{position, position_or_len, range_with_len}
+use Rattle.std.specs.Prelude.{Option, Some, None, slice_index_or, nat_le, ◌&&◌}
+use Rattle.std.specs.Map.{lookup}
+use Rattle.std.specs.List.{range_with_len}
 use Rattle.std.specs.Str.{bytes_eq}
 use Rattle.bb_net.specs.Bits.{Entry, range_width}
-use Rattle.bb_net.specs.declared.variable.Variable.{Variable}
 use Rattle.bb_elab.specs.Variables.{bit_count}
 use Rattle.bb_elab.specs.declared.references.Span.{Span}
-use Rattle.bb_elab.specs.References.{selected, is_inside, distance}
+use Rattle.bb_elab.specs.References.{selected, is_inside, distance, range_in}
 use Rattle.bb_elab.specs.Making.{first_bit}
-use Rattle.bb_elab.specs.Numbers.{firsts_from}
+use Rattle.bb_elab.specs.Numbers.{places_from, place_in}
+use Rattle.bb_elab.specs.declared.scope.Place.{Place}
+use Rattle.bb_elab.specs.Uses.{index_in, AreNext}
+use Rattle.bb_elab.specs.Firsts.{on_some}
 
--- one number more than variables
-pub firsts-length : (first : ℕ) (es : List Entry) → length (firsts_from first es) ≡ length es + 1
-firsts-length first [] = refl
-firsts-length first (e ∷ es) = let h = firsts-length (first + range_width e.1.range) es in omega (arith, h)
+-- one place more than variables
+pub places-length : (first : ℕ) (es : List Entry) → length (places_from first es) ≡ length es + 1
+places-length first [] = refl
+places-length first (e ∷ es) = let h = places-length (first + range_width e.1.range) es in omega (arith, h)
 
--- the place of a name has the number of its first bit
-number_at : (first : ℕ) (es : List Entry) (name : List ℕ) (d : ℕ) → slice_index_or (firsts_from first es) (position_or_len (bytes_eq name) (keys_of es)) d ≡ first + first_bit es name
-number_at first [] name d = omega arith
-number_at first (e ∷ es) name d = go (bytes_eq name e.0) (number_at (first + range_width e.1.range) es name d)
+-- the place at the index of a name is that of the name's variable
+place_at :
+    (first : ℕ) (es : List Entry) (name : List ℕ) → slice_get (places_from first es) (index_in es name) ≡ Some (record { first = first + first_bit es name; range = range_in es name })
+place_at first [] name = let none : first ≡ first + 0 = omega arith in ap (λ n. Some (record { first = n; range = None })) none
+place_at first (e ∷ es) name = go (bytes_eq name e.0) (place_at (first + range_width e.1.range) es name)
   where
-    go : (b : Bool) → slice_index_or (firsts_from (first + range_width e.1.range) es) (position_or_len (bytes_eq name) (keys_of es)) d ≡ first + range_width e.1.range + first_bit es name
-        → slice_index_or (first ∷ firsts_from (first + range_width e.1.range) es) (cond (not b) (1 + position_or_len (bytes_eq name) (keys_of es)) 0) d ≡ first + cond b 0 (range_width e.1.range + first_bit es name)
-    go true h = omega arith
+    go :
+        (b : Bool)
+        → slice_get (places_from (first + range_width e.1.range) es) (index_in es name) ≡ Some (record { first = first + range_width e.1.range + first_bit es name; range = range_in es name })
+        → slice_get ((record { first = first; range = e.1.range }) ∷ places_from (first + range_width e.1.range) es) (cond (not b) (1 + index_in es name) 0)
+        ≡ Some (record { first = first + cond b 0 (range_width e.1.range + first_bit es name); range = on_some (cond b (Some e.1) (lookup (bytes_eq name) es)) None (λ v. v.range) })
+    go true h = let none : first ≡ first + 0 = omega arith in ap (λ n. Some (record { first = n; range = e.1.range })) none
     go false h =
-        let next : 1 + position_or_len (bytes_eq name) (keys_of es) ≡ suc (position_or_len (bytes_eq name) (keys_of es)) = omega arith in
-        ap (λ k. slice_index_or (first ∷ firsts_from (first + range_width e.1.range) es) k d) next ∙ omega (arith, h)
+        let next : 1 + index_in es name ≡ suc (index_in es name) = omega arith in
+        let sum : first + range_width e.1.range + first_bit es name ≡ first + (range_width e.1.range + first_bit es name) = omega arith in
+        ap (λ k. slice_get ((record { first = first; range = e.1.range }) ∷ places_from (first + range_width e.1.range) es) k) next
+        ∙ (h ∙ ap (λ n. Some (record { first = n; range = range_in es name })) sum)
 
--- what a test gives where it gives something
-some_of : (b : Bool) (n i : ℕ) → cond b (Some n) None ≡ Some i → i ≡ n
-some_of true n i h = cc
-some_of false n i h = cc
-
--- the number at the place that a look-up answers
-pub number_of : (es : List Entry) (name : List ℕ) (i d : ℕ) → Some i ≡ position (bytes_eq name) (keys_of es) → slice_index_or (firsts_from 0 es) i d ≡ first_bit es name
-number_of es name i d h =
-    let n = position_or_len (bytes_eq name) (keys_of es) in
-    let same : i ≡ n = some_of (nat_lt n (length (keys_of es))) n i (sym h) in
-    ap (λ k. slice_index_or (firsts_from 0 es) k d) same ∙ (number_at 0 es name d ∙ omega arith)
-
--- behind all places stands the number behind all bits
-number_behind : (first : ℕ) (es : List Entry) (d : ℕ) → slice_index_or (firsts_from first es) (length es) d ≡ first + bit_count es
-number_behind first [] d = omega arith
-number_behind first (e ∷ es) d = let h = number_behind (first + range_width e.1.range) es d in omega (arith, h)
-
--- a name that is none has that number
-pub absent : (es : List Entry) (name : List ℕ) → None ≡ lookup (bytes_eq name) es → first_bit es name ≡ bit_count es
-absent [] name h = refl
-absent (e ∷ es) name h = go (bytes_eq name e.0) h (absent es name)
+-- a name's variable stands among the others or behind them
+pub index-within : (es : List Entry) (name : List ℕ) → index_in es name ≤ length es
+index-within [] name = omega arith
+index-within (e ∷ es) name = go (bytes_eq name e.0) (index-within es name)
   where
-    go : (b : Bool) → None ≡ cond b (Some e.1) (lookup (bytes_eq name) es) → (None ≡ lookup (bytes_eq name) es → first_bit es name ≡ bit_count es)
-        → cond b 0 (range_width e.1.range + first_bit es name) ≡ range_width e.1.range + bit_count es
-    go true h k = cc
-    go false h k = ap (λ n. range_width e.1.range + n) (k h)
+    go : (b : Bool) → index_in es name ≤ length es → cond (not b) (1 + index_in es name) 0 ≤ length (e ∷ es)
+    go true h = omega arith
+    go false h = omega (arith, h)
 
--- the number of a name that is none stands behind the others
-pub number_of_none : (es : List Entry) (name : List ℕ) (d : ℕ) → None ≡ lookup (bytes_eq name) es → slice_index_or (firsts_from 0 es) (length es) d ≡ first_bit es name
-number_of_none es name d h = let k = number_behind 0 es d in let a = absent es name h in omega (arith, k, a)
+-- the bits of each place end within those of all and one more
+pub place-within : (first : ℕ) (es : List Entry) (i : ℕ) (p : Place) → slice_get (places_from first es) i ≡ Some p → p.first + range_width p.range ≤ first + bit_count es + 1
+place-within first [] zero p h =
+    let at : p.first ≡ first = cc in
+    let none : p.range ≡ None = cc in
+    let width : range_width p.range ≡ 1 = ap range_width none in
+    omega (arith, at, width)
+place-within first [] (suc i) p h = cc
+place-within first (e ∷ es) zero p h =
+    let at : p.first ≡ first = cc in
+    let range : p.range ≡ e.1.range = cc in
+    let width : range_width p.range ≡ range_width e.1.range = ap range_width range in
+    omega (arith, at, width)
+place-within first (e ∷ es) (suc i) p h = let k = place-within (first + range_width e.1.range) es i p h in omega (arith, k)
 
--- a variable's bits are among all bits
-pub room : (es : List Entry) (name : List ℕ) (v : Variable) → Some v ≡ lookup (bytes_eq name) es → first_bit es name + range_width v.range ≤ bit_count es
-room [] name v h = cc
-room (e ∷ es) name v h = go (bytes_eq name e.0) h (room es name v)
+-- there is a next use where a name is next
+pub next_some : (vars : List Entry) (name : List ℕ) (names : List (List ℕ)) (uses : List ℕ) → AreNext vars (name ∷ names) uses → 0 < length uses
+next_some vars name names [] h = let a = h.all in cc
+next_some vars name names (u ∷ uses) h = omega arith
+
+-- and it is of the name's variable
+pub next_first : (vars : List Entry) (name : List ℕ) (names : List (List ℕ)) (uses : List ℕ) (d : ℕ) → AreNext vars (name ∷ names) uses → slice_index_or uses 0 d ≡ index_in vars name
+next_first vars name names [] d h = let a = h.all in cc
+next_first vars name names (u ∷ uses) d h = let a = h.all in cc
+
+pub next_within : (vars : List Entry) (name : List ℕ) (names : List (List ℕ)) (uses : List ℕ) (d : ℕ) → AreNext vars (name ∷ names) uses → slice_index_or uses 0 d ≤ length vars
+next_within vars name names uses d h = let at = next_first vars name names uses d h in let within = index-within vars name in omega (arith, at, within)
+
+-- the place of the next use is that of the name's variable
+pub next_place :
+    (vars : List Entry) (name : List ℕ) (names : List (List ℕ)) (uses : List ℕ) (d : ℕ) (p : Place) → AreNext vars (name ∷ names) uses
+    → slice_get (places_from 0 vars) (slice_index_or uses 0 d) ≡ Some p → p ≡ place_in vars name
+next_place vars name names uses d p h place =
+    some_same p (place_in vars name) (sym place ∙ (ap (λ k. slice_get (places_from 0 vars) k) (next_first vars name names uses d h) ∙ (place_at 0 vars name ∙ same)))
   where
-    same_width : (a b : Variable) → Some a ≡ Some b → range_width a.range ≡ range_width b.range
-    same_width a b h = cc
+    some_same : (a b : Place) → Some a ≡ Some b → a ≡ b
+    some_same a b h = cc
 
-    go : (b : Bool) → Some v ≡ cond b (Some e.1) (lookup (bytes_eq name) es) → (Some v ≡ lookup (bytes_eq name) es → first_bit es name + range_width v.range ≤ bit_count es)
-        → cond b 0 (range_width e.1.range + first_bit es name) + range_width v.range ≤ range_width e.1.range + bit_count es
-    go true h k = let s = same_width v e.1 h in omega (arith, s)
-    go false h k = let l = k h in omega (arith, l)
+    same : Some (record { first = 0 + first_bit vars name; range = range_in vars name }) ≡ Some (place_in vars name)
+    same = let sum : 0 + first_bit vars name ≡ first_bit vars name = omega arith in ap (λ n. Some (record { first = n; range = range_in vars name })) sum
 
 -- a part of a range ends within it
 inside :
@@ -100,19 +114,20 @@ selected-within (Some r) (Some t) s h = go (is_inside r t.0) (is_inside r t.1) (
     go true false c ha hb hc h = cc
     go false b c ha hb hc h = cc
 
--- numbers from a place on
-pub firsts_next :
-    (first : ℕ) (es : List Entry) (i : ℕ) (v : Entry) → slice_get es i ≡ Some v → firsts_from first (drop i es) ≡ first ∷ firsts_from (first + range_width v.1.range) (drop (i + 1) es)
-firsts_next first [] i v h = cc
-firsts_next first (e ∷ es) zero v h =
+-- places from an index on
+pub places_next :
+    (first : ℕ) (es : List Entry) (i : ℕ) (v : Entry) → slice_get es i ≡ Some v
+    → places_from first (drop i es) ≡ (record { first = first; range = v.1.range }) ∷ places_from (first + range_width v.1.range) (drop (i + 1) es)
+places_next first [] i v h = cc
+places_next first (e ∷ es) zero v h =
     let same : e ≡ v = some_same e v h in
-    ap (λ x. first ∷ firsts_from (first + range_width x.1.range) es) same
+    ap (λ x. (record { first = first; range = x.1.range }) ∷ places_from (first + range_width x.1.range) es) same
   where
     some_same : (a b : Entry) → Some a ≡ Some b → a ≡ b
     some_same a b e = cc
-firsts_next first (e ∷ es) (suc i) v h =
+places_next first (e ∷ es) (suc i) v h =
     let k : suc i + 1 ≡ suc (i + 1) = omega arith in
-    firsts_next first es i v h ∙ ap (λ n. first ∷ firsts_from (first + range_width v.1.range) (drop n (e ∷ es))) (sym k)
+    places_next first es i v h ∙ ap (λ n. (record { first = first; range = v.1.range }) ∷ places_from (first + range_width v.1.range) (drop n (e ∷ es))) (sym k)
 
 -- bits that stand together: the first one, and then the others
 pub range_next : (first end : ℕ) → first < end → range_with_len first (end - first) ≡ first ∷ range_with_len (first + 1) (end - (first + 1))

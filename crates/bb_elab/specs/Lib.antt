@@ -21,4 +21,5 @@ pub mod Counts
 pub mod Made
 pub mod Tallies
 pub mod Numbers
+pub mod Uses
 pub mod Origins

@@ -1,14 +1,21 @@
--- The numbers of the variables' first bits, as the code keeps them.
-use Rattle.std.specs.Prelude.{◌≡◌, ℕ, ◌+◌, ◌<◌, ◌^◌, List, [], ◌∷◌}
+-- Where the bits of variables stand, as the code keeps it.
+use Rattle.std.specs.Prelude.{◌≡◌, ℕ, ◌+◌, ◌<◌, ◌^◌, List, [], ◌∷◌, None}
 use Rattle.bb_net.specs.Bits.{Entry, range_width}
+use Rattle.bb_elab.specs.declared.scope.Place.{Place}
 use Rattle.bb_elab.specs.Variables.{bit_count}
+use Rattle.bb_elab.specs.References.{range_in}
+use Rattle.bb_elab.specs.Making.{first_bit}
 
--- the number of each variable's first bit, where those of the first one begin at this number, and then the number behind all bits
-abbrev pub firsts_from : ℕ → List Entry → List ℕ
-firsts_from first [] = first ∷ []
-firsts_from first (v ∷ vs) = first ∷ firsts_from (first + range_width v.1.range) vs
+-- the first bit's number and the range of each variable, where the first one's bits begin at this number, and then of a scalar behind all others
+abbrev pub places_from : ℕ → List Entry → List Place
+places_from first [] = record { first = first; range = None } ∷ []
+places_from first (v ∷ vs) = record { first = first; range = v.1.range } ∷ places_from (first + range_width v.1.range) vs
 
--- the numbers are those of the variables, and one more bit has a number too
-pub record AreFirsts (table : List Entry) (firsts : List ℕ) : Type 0 where
-  pub all : firsts ≡ firsts_from 0 table
+-- the first bit's number and the range of the variable of a name
+abbrev pub place_in : List Entry → List ℕ → Place
+place_in vars name = record { first = first_bit vars name; range = range_in vars name }
+
+-- the places are those of the variables, and one more bit has a number too
+pub record ArePlaces (table : List Entry) (places : List Place) : Type 0 where
+  pub all : places ≡ places_from 0 table
   pub few : bit_count table + 1 < 2 ^ 32

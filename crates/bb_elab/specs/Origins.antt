@@ -1,8 +1,6 @@
 -- Tables of bits by which the clock is found: what each bit copies, its copies as a list, and the input bit that feeds it.
 use Rattle.std.specs.Prelude.{◌≡◌, ◌<◌, ◌⊎◌, ℕ, nat_eq, Bool, true, false, not, ◌||◌, List, [], ◌∷◌, length, count_by, Option, Some, None, if◌then◌else◌, slice_index_or, slice_set}
 use Rattle.bb_net.specs.Net.{Gate}
-use Rattle.bb_net.specs.declared.variable.Role.{Role}
-use Rattle.bb_net.specs.declared.variable.Role.TheVariants.{Input, Output, Wire}
 use Rattle.bb_net.specs.Bits.{Entry}
 use Rattle.bb_elab.specs.Nets.{has_bit, input_bits}
 use Rattle.std.specs.List.{AllByRecursion}
@@ -101,18 +99,6 @@ pub record AreOrigins (w : Work) (roots : List Bool) (labels : List (Option ℕ)
   pub long : length labels ≡ w.fresh
   pub sound : (b i : ℕ) → entry_at labels b ≡ Some i → (is_marked roots i ≡ true) × (origin w b ≡ i)
   pub full : (b : ℕ) → b < w.fresh → is_marked roots (origin w b) ≡ true → entry_at labels b ≡ Some (origin w b)
-
--- the role is the wanted one
-abbrev pub is_role : Role → Role → Bool
-is_role Input Input = true
-is_role Input Output = false
-is_role Input Wire = false
-is_role Output Input = false
-is_role Output Output = true
-is_role Output Wire = false
-is_role Wire Input = false
-is_role Wire Output = false
-is_role Wire Wire = true
 
 -- the bits that the marks gain
 pub record AreMarked (bits : List ℕ) (before after : List Bool) : Type 0 where

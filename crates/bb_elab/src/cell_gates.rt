@@ -1,7 +1,9 @@
 //! The gates and flip-flops of cells.
 
-ghost use Rattle.std.specs.Prelude.{◌≡◌, IfOk, OnOk, map};
+ghost use Rattle.std.specs.Prelude.{◌≡◌, IfOk, OnOk, drop, length, map};
 ghost use Rattle.std.specs.Option.{option_map};
+ghost use Rattle.bb_elab.specs.Names.{pin_names, conns_names};
+ghost use Rattle.bb_elab.specs.Uses.{AreNext, pins_names};
 ghost use Rattle.bb_elab.specs.Cells.{kind_of, pins_of, by_place};
 ghost use Rattle.bb_elab.specs.Kinds.{kind_value, texts};
 ghost use Rattle.bb_elab.specs.Making.{first_out, pins_made, nets_of, out_of, out_net, register_made, all_nets, gate_made, second_inverted, select_made, body_made, kind_made, cell_made};
@@ -12,6 +14,7 @@ use crate::cells::{Body, Kind, kind_of};
 use crate::prims::add_driven_bits;
 use crate::scope::Scope;
 use crate::steps::terminal_made;
+use crate::uses::behind_steps;
 use crate::work::{Clocked, Work};
 use bb_net::{Name, NetId, Op};
 use bb_parse::{Conns, Expr, Step};
@@ -101,26 +104,40 @@ fn pins_of<'a>(alloc: Global, kind: &Kind, conns: &'a Conns) -> Result<Vec<Pin<'
     }
 }
 
+/// The uses behind those of what a pin is connected to.
+fn behind_pin<'a, 'b>(uses: &'b [u32], pin: &Pin<'a>) -> &'b [u32]
+    ensures { result.now ≡ drop (length (pin_names pin.now.1)) uses.now }
+{
+    match pin.expr {
+        None => uses,
+        Some(steps) => behind_steps(uses, steps),
+    }
+}
+
 /// The nets of the pins that are read, in the text's order.
 fn pins_made<'a>(
     work: &mut Work,
     scope: &Scope,
     kind: &Kind,
+    uses: &[u32],
     pins: &[Pin<'a>],
 ) -> Result<Vec<PinNets<'a>>, AllocError>
+    requires { AreNext scope.now (pins_names pins.now) uses.now }
     ensures { IfOk result (λ read. Makes (pins_made scope.now (kind_value kind.now) pins.now) work.old read.items work.new) }
 {
     let mut read = Vec::with_capacity(work.alloc, pins.len())?;
+    let mut rest = uses;
     for pin in pins {
         if let Some(steps) = pin.expr {
             if kind.out != pin.name {
-                let nets = terminal_made(work, scope, steps)?;
+                let nets = terminal_made(work, scope, rest, steps)?;
                 read.push(PinNets {
                     name: pin.name,
                     nets,
                 })?;
             }
         }
+        rest = behind_pin(rest, pin);
     }
     Ok(read)
 }
@@ -157,18 +174,22 @@ fn out_of<'a>(
     alloc: Global,
     scope: &Scope,
     kind: &Kind,
+    uses: &[u32],
     pins: &[Pin<'a>],
 ) -> Result<Option<Vec<NetId>>, AllocError>
+    requires { AreNext scope.now (pins_names pins.now) uses.now }
     ensures { IfOk result (λ out. outs_of (option_map (λ v. v.items) out) ≡ out_of scope.now (kind_value kind.now) pins.now) }
 {
+    let mut rest = uses;
     for pin in pins {
         if let Some(steps) = pin.expr {
             if kind.out == pin.name {
                 let mut targets = Vec::new(alloc);
-                add_driven_bits(scope, steps, &mut targets)?;
+                add_driven_bits(scope, rest, steps, &mut targets)?;
                 return Ok(Some(targets));
             }
         }
+        rest = behind_pin(rest, pin);
     }
     Ok(None)
 }
@@ -292,13 +313,15 @@ fn kind_made<'a>(
     work: &mut Work,
     scope: &Scope,
     kind: &Kind,
+    uses: &[u32],
     pins: &[Pin<'a>],
 ) -> Result<(), AllocError>
+    requires { AreNext scope.now (pins_names pins.now) uses.now }
     ensures { OnOk result (work.new ≡ (kind_made scope.now (kind_value kind.now) pins.now work.old).1) }
 {
-    let read = pins_made(work, scope, kind, pins)?;
+    let read = pins_made(work, scope, kind, uses, pins)?;
     let ins = inputs(work.alloc, &read, kind.ins)?;
-    match out_of(work.alloc, scope, kind, pins)? {
+    match out_of(work.alloc, scope, kind, uses, pins)? {
         None => body_made(work, kind.body, None, &ins),
         Some(targets) => body_made(work, kind.body, Some(targets.as_slice()), &ins),
     }
@@ -309,13 +332,15 @@ pub(crate) fn cell_made(
     work: &mut Work,
     scope: &Scope,
     cell: &Name,
+    uses: &[u32],
     conns: &Conns,
 ) -> Result<(), AllocError>
+    requires { AreNext scope.now (conns_names conns.now) uses.now }
     ensures { OnOk result (work.new ≡ (cell_made scope.now (kind_of cell.now) conns.now work.old).1) }
 {
     let Some(kind) = kind_of(cell.bytes()) else {
         return Ok(());
     };
     let pins = pins_of(work.alloc, &kind, conns)?;
-    kind_made(work, scope, &kind, &pins)
+    kind_made(work, scope, &kind, uses, &pins)
 }

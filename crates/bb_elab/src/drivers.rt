@@ -84,7 +84,7 @@ fn note_range(counts: &mut [u8], first: u64, end: u64)
 }
 
 /// Whether a role is this one.
-fn is_role(wanted: Role, role: Role) -> bool
+pub(crate) fn is_role(wanted: Role, role: Role) -> bool
     ensures { result ≡ is_role wanted role }
 {
     match wanted {

@@ -1,7 +1,9 @@
 //! The gates and flip-flops of items.
 
-ghost use Rattle.std.specs.Prelude.{◌≡◌, IfOk, OnOk, flat_map};
+ghost use Rattle.std.specs.Prelude.{◌≡◌, IfOk, OnOk, map, flat_map};
+ghost use Rattle.bb_elab.specs.Names.{item_names};
 ghost use Rattle.bb_elab.specs.Variables.{bit_count};
+ghost use Rattle.bb_elab.specs.Uses.{AreNext};
 ghost use Rattle.bb_elab.specs.Making.{ref_bits, item_made, items_made, work_of};
 
 use crate::cell_gates::cell_made;
@@ -9,6 +11,7 @@ use crate::prims::{add_ref_bits, prim_made};
 use crate::scope::Scope;
 use crate::steps::assigned;
 use crate::table::bit_count;
+use crate::uses::{behind, behind_item};
 use crate::work::Work;
 use bb_net::{Name, NetId, Variable};
 use bb_parse::{Item, Ref};
@@ -16,18 +19,29 @@ use indexmap::IndexMap;
 use std::alloc::{AllocError, Global};
 
 /// The bits of a left side.
-fn targets(alloc: Global, scope: &Scope, left: &[Ref]) -> Result<Vec<NetId>, AllocError>
+#[tactic(auto, using(crate::proofs::UseLaws::use_laws))]
+fn targets(
+    alloc: Global,
+    scope: &Scope,
+    uses: &[u32],
+    left: &[Ref],
+) -> Result<Vec<NetId>, AllocError>
+    requires { AreNext scope.now (map (λ r. r.name) left.now) uses.now }
     ensures { IfOk result (λ nets. nets.items ≡ flat_map (ref_bits scope.now) left.now) }
 {
     let mut nets = Vec::new(alloc);
+    let mut rest = uses;
     for reference in left {
-        add_ref_bits(scope, reference, &mut nets)?;
+        add_ref_bits(scope, rest, reference, &mut nets)?;
+        rest = behind(rest, 1);
     }
     Ok(nets)
 }
 
 /// The gates of an item.
-fn item_made(work: &mut Work, scope: &Scope, item: &Item) -> Result<(), AllocError>
+#[tactic(auto, using(crate::proofs::UseLaws::use_laws))]
+fn item_made(work: &mut Work, scope: &Scope, uses: &[u32], item: &Item) -> Result<(), AllocError>
+    requires { AreNext scope.now (item_names item.now) uses.now }
     ensures { OnOk result (work.new ≡ (item_made scope.now item.now work.old).1) }
 {
     match item {
@@ -37,24 +51,33 @@ fn item_made(work: &mut Work, scope: &Scope, item: &Item) -> Result<(), AllocErr
             left,
             right,
         } => {
-            let nets = targets(work.alloc, scope, left.as_slice())?;
-            assigned(work, scope, &nets, right.as_slice())
+            let nets = targets(work.alloc, scope, uses, left.as_slice())?;
+            let rest = behind(uses, left.as_slice().len());
+            assigned(work, scope, &nets, rest, right.as_slice())
         }
-        Item::Prim { line: _, op, terms } => prim_made(work, scope, *op, terms.as_slice()),
+        Item::Prim { line: _, op, terms } => prim_made(work, scope, *op, uses, terms.as_slice()),
         Item::Cell {
             line: _,
             cell,
             conns,
-        } => cell_made(work, scope, cell, conns),
+        } => cell_made(work, scope, cell, uses, conns),
     }
 }
 
 /// The gates of items, in the text's order.
-fn items_made(work: &mut Work, scope: &Scope, items: &[Item]) -> Result<(), AllocError>
+fn items_made(
+    work: &mut Work,
+    scope: &Scope,
+    uses: &[u32],
+    items: &[Item],
+) -> Result<(), AllocError>
+    requires { AreNext scope.now (flat_map item_names items.now) uses.now }
     ensures { OnOk result (work.new ≡ items_made scope.now items.now work.old) }
 {
+    let mut rest = uses;
     for item in items {
-        item_made(work, scope, item)?;
+        item_made(work, scope, rest, item)?;
+        rest = behind_item(rest, item);
     }
     Ok(())
 }
@@ -70,7 +93,13 @@ fn first_made(table: &IndexMap<Name, Variable>) -> Result<u32, AllocError>
 }
 
 /// All that items make over the variables of their module.
-pub(crate) fn work_of(alloc: Global, scope: &Scope, items: &[Item]) -> Result<Work, AllocError>
+pub(crate) fn work_of(
+    alloc: Global,
+    scope: &Scope,
+    uses: &[u32],
+    items: &[Item],
+) -> Result<Work, AllocError>
+    requires { AreNext scope.now (flat_map item_names items.now) uses.now }
     ensures { IfOk result (λ work. work ≡ work_of scope.now items.now) }
 {
     let mut work = Work {
@@ -79,6 +108,6 @@ pub(crate) fn work_of(alloc: Global, scope: &Scope, items: &[Item]) -> Result<Wo
         gates: Vec::new(alloc),
         flops: Vec::new(alloc),
     };
-    items_made(&mut work, scope, items)?;
+    items_made(&mut work, scope, uses, items)?;
     Ok(work)
 }

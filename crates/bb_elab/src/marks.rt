@@ -8,20 +8,15 @@ ghost use Rattle.bb_elab.specs.Nets.{bits_from, input_bits};
 ghost use Rattle.bb_elab.specs.Making.{Work as WorkValue, Clocked as ClockedValue};
 ghost use Rattle.bb_elab.specs.Clock.{is_buf, clock_pins, read_as_data};
 ghost use Rattle.bb_elab.specs.Within.{IsWithin, IsGateWithin, IsFlopWithin};
-ghost use Rattle.bb_elab.specs.Origins.{is_role, AreMarked, AreMarks};
+ghost use Rattle.bb_elab.specs.Tallies.{is_role};
+ghost use Rattle.bb_elab.specs.Origins.{AreMarked, AreMarks};
 
+use crate::drivers::is_role;
 use crate::table::range_width;
 use crate::work::{Clocked, Work};
 use bb_net::{Gate, Name, NetId, Op, Role, Variable};
 use indexmap::IndexMap;
 use std::alloc::{AllocError, Global};
-
-/// Whether a role is the wanted one.
-fn is_role(wanted: Role, role: Role) -> bool
-    ensures { result ≡ is_role wanted role }
-{
-    wanted == role
-}
 
 /// Marks so many bits from this one on, as far as the table reaches.
 fn mark_range(marks: &mut [bool], first: u64, width: u64)

@@ -1,11 +1,13 @@
 //! Elaboration: the netlist that a module denotes, or its first fault.
 
-ghost use Rattle.std.specs.Prelude.{◌≡◌, ◌≢◌, ◌<◌, IfOk, IfErr, OnOk, Ok, Err, None, Some, All, length};
+ghost use Rattle.std.specs.Prelude.{◌≡◌, ◌≢◌, ◌<◌, IfOk, IfErr, OnOk, Ok, Err, None, Some, All, flat_map, length};
 ghost use Rattle.bb_net.specs.Bits.{IsEntry};
 ghost use Rattle.bb_net.specs.Named.{IsNamed, net_text};
 ghost use Rattle.bb_net.specs.Order.{IsOrder};
 ghost use Rattle.bb_parse.specs.Sound.{IsSoundModule};
 ghost use Rattle.bb_elab.specs.declared.fault.ElabFault.TheVariants.{NoMemory};
+ghost use Rattle.bb_elab.specs.Names.{item_names};
+ghost use Rattle.bb_elab.specs.Uses.{AreNext};
 ghost use Rattle.bb_elab.specs.Variables.{variables};
 ghost use Rattle.bb_elab.specs.Text.{text_fault};
 ghost use Rattle.bb_elab.specs.Within.{IsWithin};
@@ -18,8 +20,7 @@ use crate::assemble::assemble;
 use crate::clock::clock_in;
 use crate::items::work_of;
 use crate::nets::{all_variables, driven_nets, index_of};
-use crate::scope::Scope;
-use crate::text::checked;
+use crate::text::{Bound, checked};
 use crate::work::Work;
 use bb_net::{Name, Named, NetId, Order, OrderFault, Variable, find_order};
 use bb_parse::Module;
@@ -84,38 +85,40 @@ fn wired(
     Ok(Ok(named))
 }
 
-/// All variables of a module with this table of those of its text, and what its items make.
+/// All variables of a module whose text was checked, and what its items make.
 fn made_in(
     alloc: Global,
     module: &Module,
-    table: IndexMap<Name, Variable>,
+    bound: Bound,
 ) -> Result<(IndexMap<Name, Variable>, Work), AllocError>
-    requires { table.entries ≡ variables «module».now }
+    requires scope { bound.scope ≡ variables «module».now }
+    requires uses { AreNext bound.scope (flat_map item_names «module».now.items) bound.uses.items }
     ensures vars { IfOk result (λ made. made.0.entries ≡ variables_in «module».now) }
     ensures work { IfOk result (λ made. made.1 ≡ work_in «module».now) }
 {
-    let scope = Scope::new(alloc, table)?;
-    let work = work_of(alloc, &scope, module.items.as_slice())?;
+    let Bound { scope, uses } = bound;
+    let work = work_of(alloc, &scope, &uses, module.items.as_slice())?;
     let vars = all_variables(alloc, scope.into_table(), &work)?;
     Ok((vars, work))
 }
 
-/// The named netlist of a module whose text has no fault and this table of variables, or the first fault of drivers and clocks.
+/// The named netlist of a module whose text was checked, or the first fault of drivers and clocks.
 fn named_in(
     alloc: Global,
     own: bool,
     module: &Module,
-    table: IndexMap<Name, Variable>,
+    bound: Bound,
 ) -> Result<Result<Named, ElabFault>, AllocError>
     requires sound { IsSoundModule «module».now }
-    requires table { table.entries ≡ variables «module».now }
+    requires scope { bound.scope ≡ variables «module».now }
+    requires uses { AreNext bound.scope (flat_map item_names «module».now.items) bound.uses.items }
     requires fine { text_fault own «module».now ≡ None }
     ensures named { IfOk result (λ found. IfOk found (λ named. named ≡ denoted «module».now)) }
     ensures valid { IfOk result (λ found. OnOk found (IsNamed (denoted «module».now))) }
     ensures fine { IfOk result (λ found. OnOk found (net_fault (variables_in «module».now) (work_in «module».now) ≡ None)) }
     ensures fault { IfOk result (λ found. IfErr found (λ fault. net_fault (variables_in «module».now) (work_in «module».now) ≡ Some fault)) }
 {
-    let (vars, work) = made_in(alloc, module, table)?;
+    let (vars, work) = made_in(alloc, module, bound)?;
     let name = module.name.copy(alloc)?;
     wired(alloc, name, vars, &work)
 }
@@ -130,11 +133,11 @@ pub fn elaborate(alloc: Global, module: &Module, own: bool) -> Result<(Named, Or
     ensures order { IfOk result (λ found. IsOrder found.0.netlist.gates found.1) }
     ensures fault { IfErr result (λ fault. fault ≢ NoMemory → IsOutcome own «module».now (Err fault)) }
 {
-    let table = match checked(alloc, own, module)? {
-        Ok(table) => table,
+    let bound = match checked(alloc, own, module)? {
+        Ok(bound) => bound,
         Err(fault) => return Err(fault),
     };
-    let named = match named_in(alloc, own, module, table)? {
+    let named = match named_in(alloc, own, module, bound)? {
         Ok(named) => named,
         Err(fault) => return Err(fault),
     };

@@ -1,9 +1,11 @@
 //! The parts of items: pins, selects and widths, and the nets that they make.
 
-ghost use Rattle.std.specs.Prelude.{◌≡◌, ◌+◌, ◌*◌, ◌<◌, ◌≤◌, ◌^◌, ◌∷◌, [], ℕ, length, take, drop, OnOk, IfOk, IfErr, Some, None, true};
+ghost use Rattle.std.specs.Prelude.{◌≡◌, ◌+◌, ◌*◌, ◌<◌, ◌≤◌, ◌^◌, ◌∷◌, ◌++◌, [], ℕ, length, take, drop, map, flat_map, OnOk, IfOk, IfErr, Some, None, true};
 ghost use Rattle.std.specs.List.{list_all};
 ghost use Rattle.bb_elab.specs.Firsts.{first_answer, on_some};
+ghost use Rattle.bb_elab.specs.Names.{steps_names, pin_names, conns_names, item_names};
 ghost use Rattle.bb_elab.specs.Variables.{told};
+ghost use Rattle.bb_elab.specs.Uses.{AreNext};
 ghost use Rattle.bb_elab.specs.Counts.{Counts};
 ghost use Rattle.bb_elab.specs.Cells.{is_plain, kind_of};
 ghost use Rattle.bb_elab.specs.Kinds.{kind_value};
@@ -14,55 +16,54 @@ ghost use Rattle.bb_elab.specs.Parts.{drives_all, out_count, outs_of, are_right_
 use crate::ElabFault;
 use crate::cells::{Body, Kind, kind_of};
 use crate::pins::{are_right, is_given, is_plain};
-use crate::references::{Span, ref_span, span_fault};
+use crate::references::{bits_of, span_fault};
+use crate::scope::Scope;
 use crate::sizes::{terminal, value};
-use bb_net::{Name, Op, Variable};
+use crate::uses::{behind, behind_item, behind_pin, behind_steps};
+use bb_net::{Name, Op};
 use bb_parse::{Conns, Expr, Item, Ref, Step};
-use indexmap::IndexMap;
 use std::alloc::{AllocError, Global};
 
 /// How many bits the references of a left side have together, or the first fault.
-fn left_width(table: &IndexMap<Name, Variable>, line: u32, left: &[Ref]) -> Result<u128, ElabFault>
-    ensures fault { IfErr result (λ fault. first_answer (ref_fault table.now.entries line) left.now ≡ Some fault) }
-    ensures fine { OnOk result (first_answer (ref_fault table.now.entries line) left.now ≡ None) }
-    ensures width { IfOk result (λ width. width ≡ left_width table.now.entries left.now) }
+#[tactic(auto, using(crate::proofs::UseLaws::use_laws))]
+fn left_width(scope: &Scope, line: u32, uses: &[u32], left: &[Ref]) -> Result<u128, ElabFault>
+    requires { AreNext scope.now (map (λ r. r.name) left.now) uses.now }
+    ensures fault { IfErr result (λ fault. first_answer (ref_fault scope.now line) left.now ≡ Some fault) }
+    ensures fine { OnOk result (first_answer (ref_fault scope.now line) left.now ≡ None) }
+    ensures width { IfOk result (λ width. width ≡ left_width scope.now left.now) }
 {
     let mut width: u128 = 0;
+    let mut rest = uses;
     for reference in left {
-        let span = ref_span(table, reference);
+        let span = scope.span(rest, reference);
         if let Some(fault) = span_fault(line, span) {
             return Err(fault);
         }
         width += bits_of(span) as u128;
+        rest = behind(rest, 1);
     }
     Ok(width)
-}
-
-/// How many bits a reference names.
-fn bits_of(span: Option<Span>) -> u64
-    ensures { result ≡ width_of span }
-{
-    match span {
-        None => 0,
-        Some(span) => span.width,
-    }
 }
 
 /// The nets of expressions at terminals, or the first fault.
 fn terms(
     alloc: Global,
-    table: &IndexMap<Name, Variable>,
+    scope: &Scope,
     line: u32,
+    uses: &[u32],
     terms: &[Expr],
 ) -> Result<Result<u64, ElabFault>, AllocError>
-    ensures { IfOk result (λ found. Counts (first_answer (expr_fault table.now.entries line 1) terms.now) (told (terms_nets table.now.entries terms.now)) found) }
+    requires { AreNext scope.now (flat_map steps_names terms.now) uses.now }
+    ensures { IfOk result (λ found. Counts (first_answer (expr_fault scope.now line 1) terms.now) (told (terms_nets scope.now terms.now)) found) }
 {
     let mut nets: u64 = 0;
+    let mut rest = uses;
     for term in terms {
-        match terminal(alloc, table, line, term.as_slice())? {
+        match terminal(alloc, scope, line, rest, term.as_slice())? {
             Ok(more) => nets = nets.saturating_add(more),
             Err(fault) => return Ok(Err(fault)),
         }
+        rest = behind_steps(rest, term.as_slice());
     }
     Ok(Ok(nets))
 }
@@ -70,33 +71,39 @@ fn terms(
 /// The nets of what a pin is connected to, or the first fault.
 fn pin(
     alloc: Global,
-    table: &IndexMap<Name, Variable>,
+    scope: &Scope,
     line: u32,
+    uses: &[u32],
     pin: &(Name, Option<Expr>),
 ) -> Result<Result<u64, ElabFault>, AllocError>
-    ensures { IfOk result (λ found. Counts (pin_fault table.now.entries line pin.now) (told (pin_nets table.now.entries pin.now)) found) }
+    requires { AreNext scope.now (pin_names pin.now.1) uses.now }
+    ensures { IfOk result (λ found. Counts (pin_fault scope.now line pin.now) (told (pin_nets scope.now pin.now)) found) }
 {
     match &pin.1 {
         None => Ok(Ok(0)),
-        Some(steps) => terminal(alloc, table, line, steps.as_slice()),
+        Some(steps) => terminal(alloc, scope, line, uses, steps.as_slice()),
     }
 }
 
 /// The nets of pins, or the first fault.
 fn pins(
     alloc: Global,
-    table: &IndexMap<Name, Variable>,
+    scope: &Scope,
     line: u32,
+    uses: &[u32],
     pins: &[(Name, Option<Expr>)],
 ) -> Result<Result<u64, ElabFault>, AllocError>
-    ensures { IfOk result (λ found. Counts (first_answer (pin_fault table.now.entries line) pins.now) (told (pins_nets table.now.entries pins.now)) found) }
+    requires { AreNext scope.now (flat_map (λ p. pin_names p.1) pins.now) uses.now }
+    ensures { IfOk result (λ found. Counts (first_answer (pin_fault scope.now line) pins.now) (told (pins_nets scope.now pins.now)) found) }
 {
     let mut nets: u64 = 0;
+    let mut rest = uses;
     for one in pins {
-        match pin(alloc, table, line, one)? {
+        match pin(alloc, scope, line, rest, one)? {
             Ok(more) => nets = nets.saturating_add(more),
             Err(fault) => return Ok(Err(fault)),
         }
+        rest = behind_pin(rest, one);
     }
     Ok(Ok(nets))
 }
@@ -104,15 +111,17 @@ fn pins(
 /// The nets of what an instance is connected to, or the first fault.
 fn connections(
     alloc: Global,
-    table: &IndexMap<Name, Variable>,
+    scope: &Scope,
     line: u32,
+    uses: &[u32],
     conns: &Conns,
 ) -> Result<Result<u64, ElabFault>, AllocError>
-    ensures { IfOk result (λ found. Counts (conns_fault table.now.entries line conns.now) (told (conns_nets table.now.entries conns.now)) found) }
+    requires { AreNext scope.now (conns_names conns.now) uses.now }
+    ensures { IfOk result (λ found. Counts (conns_fault scope.now line conns.now) (told (conns_nets scope.now conns.now)) found) }
 {
     match conns {
-        Conns::Places(places) => terms(alloc, table, line, places.as_slice()),
-        Conns::Pins(list) => pins(alloc, table, line, list.as_slice()),
+        Conns::Places(places) => terms(alloc, scope, line, uses, places.as_slice()),
+        Conns::Pins(list) => pins(alloc, scope, line, uses, list.as_slice()),
     }
 }
 
@@ -146,12 +155,14 @@ fn open_nets(kind: &Kind, conns: &Conns) -> u64
 /// The nets of an instance, or its first fault. An unknown cell has its fault before.
 fn cell(
     alloc: Global,
-    table: &IndexMap<Name, Variable>,
+    scope: &Scope,
     line: u32,
     name: &Name,
+    uses: &[u32],
     conns: &Conns,
 ) -> Result<Result<u64, ElabFault>, AllocError>
-    ensures { IfOk result (λ found. Counts (cell_fault table.now.entries line (kind_of name.now) conns.now) (told (cell_nets table.now.entries (kind_of name.now) conns.now)) found) }
+    requires { AreNext scope.now (conns_names conns.now) uses.now }
+    ensures { IfOk result (λ found. Counts (cell_fault scope.now line (kind_of name.now) conns.now) (told (cell_nets scope.now (kind_of name.now) conns.now)) found) }
 {
     let Some(kind) = kind_of(name.bytes()) else {
         return Ok(Ok(0));
@@ -159,7 +170,7 @@ fn cell(
     if !are_right(&kind, conns) {
         return Ok(Err(ElabFault::BadPins { line }));
     }
-    match connections(alloc, table, line, conns)? {
+    match connections(alloc, scope, line, uses, conns)? {
         Err(fault) => Ok(Err(fault)),
         Ok(nets) => Ok(Ok(nets.saturating_add(inner_nets(kind.body) + open_nets(&kind, conns)))),
     }
@@ -202,71 +213,87 @@ fn are_right_terms(op: Op, terms: &[Expr]) -> bool
 /// The nets of a primitive, or its first fault.
 fn prim(
     alloc: Global,
-    table: &IndexMap<Name, Variable>,
+    scope: &Scope,
     line: u32,
     op: Op,
+    uses: &[u32],
     list: &[Expr],
 ) -> Result<Result<u64, ElabFault>, AllocError>
-    ensures { IfOk result (λ found. Counts (prim_fault table.now.entries line op list.now) (told (terms_nets table.now.entries list.now)) found) }
+    requires { AreNext scope.now (flat_map steps_names list.now) uses.now }
+    ensures { IfOk result (λ found. Counts (prim_fault scope.now line op list.now) (told (terms_nets scope.now list.now)) found) }
 {
     if !are_right_terms(op, list) {
         return Ok(Err(ElabFault::BadPins { line }));
     }
-    terms(alloc, table, line, list)
+    terms(alloc, scope, line, uses, list)
 }
 
 /// The nets of an assign, or its first fault.
+#[tactic(auto, using(crate::proofs::UseLaws::use_laws))]
 fn assign(
     alloc: Global,
-    table: &IndexMap<Name, Variable>,
+    scope: &Scope,
     line: u32,
+    uses: &[u32],
     left: &[Ref],
     right: &[Step],
 ) -> Result<Result<u64, ElabFault>, AllocError>
-    ensures { IfOk result (λ found. Counts (assign_fault table.now.entries line left.now right.now) (told (value_nets table.now.entries right.now)) found) }
+    requires { AreNext scope.now (map (λ r. r.name) left.now ++ steps_names right.now) uses.now }
+    ensures { IfOk result (λ found. Counts (assign_fault scope.now line left.now right.now) (told (value_nets scope.now right.now)) found) }
 {
-    match left_width(table, line, left) {
+    match left_width(scope, line, uses, left) {
         Err(fault) => Ok(Err(fault)),
-        Ok(width) => value(alloc, table, line, width, right),
+        Ok(width) => value(alloc, scope, line, width, behind(uses, left.len()), right),
     }
 }
 
 /// The nets of an item, or its first fault.
 fn item(
     alloc: Global,
-    table: &IndexMap<Name, Variable>,
+    scope: &Scope,
+    uses: &[u32],
     one: &Item,
 ) -> Result<Result<u64, ElabFault>, AllocError>
-    ensures { IfOk result (λ found. Counts (item_fault table.now.entries one.now) (told (item_nets table.now.entries one.now)) found) }
+    requires { AreNext scope.now (item_names one.now) uses.now }
+    ensures { IfOk result (λ found. Counts (item_fault scope.now one.now) (told (item_nets scope.now one.now)) found) }
 {
     match one {
         Item::Decl(_) => Ok(Ok(0)),
-        Item::Assign { line, left, right } => {
-            assign(alloc, table, *line, left.as_slice(), right.as_slice())
-        }
-        Item::Prim { line, op, terms } => prim(alloc, table, *line, *op, terms.as_slice()),
+        Item::Assign { line, left, right } => assign(
+            alloc,
+            scope,
+            *line,
+            uses,
+            left.as_slice(),
+            right.as_slice(),
+        ),
+        Item::Prim { line, op, terms } => prim(alloc, scope, *line, *op, uses, terms.as_slice()),
         Item::Cell {
             line,
             cell: name,
             conns,
-        } => cell(alloc, table, *line, name, conns),
+        } => cell(alloc, scope, *line, name, uses, conns),
     }
 }
 
 /// The nets that items make, or the first fault of one.
 pub(crate) fn items(
     alloc: Global,
-    table: &IndexMap<Name, Variable>,
+    scope: &Scope,
+    uses: &[u32],
     list: &[Item],
 ) -> Result<Result<u64, ElabFault>, AllocError>
-    ensures { IfOk result (λ found. Counts (first_answer (item_fault table.now.entries) list.now) (told (items_nets table.now.entries list.now)) found) }
+    requires { AreNext scope.now (flat_map item_names list.now) uses.now }
+    ensures { IfOk result (λ found. Counts (first_answer (item_fault scope.now) list.now) (told (items_nets scope.now list.now)) found) }
 {
     let mut nets: u64 = 0;
+    let mut rest = uses;
     for one in list {
-        match item(alloc, table, one)? {
+        match item(alloc, scope, rest, one)? {
             Ok(more) => nets = nets.saturating_add(more),
             Err(fault) => return Ok(Err(fault)),
         }
+        rest = behind_item(rest, one);
     }
     Ok(Ok(nets))
 }

@@ -1,26 +1,37 @@
 //! The gates of primitives.
 
-ghost use Rattle.std.specs.Prelude.{◌≡◌, ◌≤◌, ◌-◌, ◌++◌, OnOk, IfOk, flat_map};
+ghost use Rattle.std.specs.Prelude.{◌≡◌, ◌≤◌, ◌-◌, ◌++◌, ◌∷◌, [], OnOk, IfOk, flat_map};
 ghost use Rattle.std.specs.List.{range_with_len};
+ghost use Rattle.bb_elab.specs.Names.{steps_names};
+ghost use Rattle.bb_elab.specs.Uses.{AreNext};
 ghost use Rattle.bb_elab.specs.Parts.{outs_of, ins_of};
 ghost use Rattle.bb_elab.specs.Making.{ref_bits, terminals_made, driven_bits, all_driven, prim_made};
 ghost use Rattle.bb_elab.specs.Makes.{Makes};
 
 use crate::scope::{Bits, Scope};
 use crate::steps::terminal_made;
+use crate::uses::{behind_steps, behind_terms};
 use crate::work::Work;
 use bb_net::{NetId, Op};
 use bb_parse::{Expr, Ref, Step};
 use std::alloc::AllocError;
 
 /// The nets of terminals that are read, one after the other.
-fn terminals_made(work: &mut Work, scope: &Scope, terms: &[Expr]) -> Result<Vec<NetId>, AllocError>
+fn terminals_made(
+    work: &mut Work,
+    scope: &Scope,
+    uses: &[u32],
+    terms: &[Expr],
+) -> Result<Vec<NetId>, AllocError>
+    requires { AreNext scope.now (flat_map steps_names terms.now) uses.now }
     ensures { IfOk result (λ nets. Makes (terminals_made scope.now terms.now) work.old nets.items work.new) }
 {
     let mut nets = Vec::new(work.alloc);
+    let mut rest = uses;
     for term in terms {
-        let more = terminal_made(work, scope, term.as_slice())?;
+        let more = terminal_made(work, scope, rest, term.as_slice())?;
         nets.extend_from_slice(&more)?;
+        rest = behind_steps(rest, term.as_slice());
     }
     Ok(nets)
 }
@@ -39,24 +50,29 @@ fn add_bits(nets: &mut Vec<NetId>, bits: Bits) -> Result<(), AllocError>
 /// Adds the bits that a reference names.
 pub(crate) fn add_ref_bits(
     scope: &Scope,
+    uses: &[u32],
     reference: &Ref,
     nets: &mut Vec<NetId>,
 ) -> Result<(), AllocError>
+    requires { AreNext scope.now (reference.now.name ∷ []) uses.now }
     ensures { OnOk result (nets.new.items ≡ nets.old.items ++ ref_bits scope.now reference.now) }
 {
-    add_bits(nets, scope.bits(reference))
+    add_bits(nets, scope.bits(uses, reference))
 }
 
 /// Adds the nets of a terminal that is driven.
+#[tactic(auto, using(crate::proofs::UseLaws::use_laws))]
 pub(crate) fn add_driven_bits(
     scope: &Scope,
+    uses: &[u32],
     steps: &[Step],
     nets: &mut Vec<NetId>,
 ) -> Result<(), AllocError>
+    requires { AreNext scope.now (steps_names steps.now) uses.now }
     ensures { OnOk result (nets.new.items ≡ nets.old.items ++ driven_bits scope.now steps.now) }
 {
     match steps.first() {
-        Some(Step::Ref(reference)) => add_ref_bits(scope, reference, nets),
+        Some(Step::Ref(reference)) => add_ref_bits(scope, uses, reference, nets),
         _ => Ok(()),
     }
 }
@@ -64,13 +80,17 @@ pub(crate) fn add_driven_bits(
 /// Adds the nets of terminals that are driven.
 fn add_all_driven_bits(
     scope: &Scope,
+    uses: &[u32],
     terms: &[Expr],
     nets: &mut Vec<NetId>,
 ) -> Result<(), AllocError>
+    requires { AreNext scope.now (flat_map steps_names terms.now) uses.now }
     ensures { OnOk result (nets.new.items ≡ nets.old.items ++ flat_map (driven_bits scope.now) terms.now) }
 {
+    let mut rest = uses;
     for term in terms {
-        add_driven_bits(scope, term.as_slice(), nets)?;
+        add_driven_bits(scope, rest, term.as_slice(), nets)?;
+        rest = behind_steps(rest, term.as_slice());
     }
     Ok(())
 }
@@ -103,13 +123,15 @@ pub(crate) fn prim_made(
     work: &mut Work,
     scope: &Scope,
     op: Op,
+    uses: &[u32],
     terms: &[Expr],
 ) -> Result<(), AllocError>
+    requires { AreNext scope.now (flat_map steps_names terms.now) uses.now }
     ensures { OnOk result (work.new ≡ (prim_made scope.now op terms.now work.old).1) }
 {
     let (outs, ins) = parts_of(op, terms);
-    let nets = terminals_made(work, scope, ins)?;
+    let nets = terminals_made(work, scope, behind_terms(uses, outs), ins)?;
     let mut targets = Vec::new(work.alloc);
-    add_all_driven_bits(scope, outs, &mut targets)?;
+    add_all_driven_bits(scope, uses, outs, &mut targets)?;
     all_driven(work, op, &nets, &targets)
 }

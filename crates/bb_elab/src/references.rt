@@ -1,13 +1,10 @@
 //! The bits that references name.
 
 ghost use Rattle.std.specs.Prelude.{◌≡◌, ◌+◌, ◌<◌, ◌^◌, IfSome, IfNone, Some, None};
-ghost use Rattle.bb_elab.specs.References.{range_in, is_inside, selected, ref_span, span_fault};
+ghost use Rattle.bb_elab.specs.References.{is_inside, selected, width_of, span_fault};
 
 use crate::ElabFault;
 use crate::table::range_width;
-use bb_net::{Name, Variable};
-use bb_parse::Ref;
-use indexmap::IndexMap;
 
 /// The most bits of a value.
 pub(crate) const WIDTH_LIMIT: u64 = 65_536;
@@ -17,16 +14,6 @@ pub(crate) const WIDTH_LIMIT: u64 = 65_536;
 pub(crate) struct Span {
     pub(crate) first: u32,
     pub(crate) width: u64,
-}
-
-/// The range of a variable.
-fn range_in(table: &IndexMap<Name, Variable>, name: &Name) -> Option<(u32, u32)>
-    ensures { result ≡ range_in table.now.entries name.now }
-{
-    match table.get(name) {
-        Some(variable) => variable.range,
-        None => None,
-    }
 }
 
 /// Whether an index lies in a range.
@@ -59,11 +46,14 @@ pub(crate) fn selected(range: Option<(u32, u32)>, select: Option<(u32, u32)>) ->
     None
 }
 
-/// The bits that a reference names, none where its select is bad.
-pub(crate) fn ref_span(table: &IndexMap<Name, Variable>, reference: &Ref) -> Option<Span>
-    ensures { result ≡ ref_span table.now.entries reference.now }
+/// How many bits a reference names.
+pub(crate) fn bits_of(span: Option<Span>) -> u64
+    ensures { result ≡ width_of span }
 {
-    selected(range_in(table, &reference.name), reference.select)
+    match span {
+        None => 0,
+        Some(span) => span.width,
+    }
 }
 
 /// The fault of a reference by the bits that it names.

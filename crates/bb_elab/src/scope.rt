@@ -1,14 +1,15 @@
-//! The variables of a module with the numbers of their bits.
+//! The variables of a module with the places of their bits.
 
-ghost use Rattle.std.specs.Prelude.{◌≡◌, ◌≤◌, ◌<◌, ◌+◌, ◌-◌, ◌^◌, IfOk, OnOk, IfSome};
+ghost use Rattle.std.specs.Prelude.{◌≡◌, ◌≤◌, ◌<◌, ◌+◌, ◌-◌, ◌^◌, ◌∷◌, [], Some, length, slice_get, IfOk, OnOk, IfSome, IfNone};
 ghost use Rattle.std.specs.List.{range_with_len};
 ghost use Rattle.bb_net.specs.Bits.{range_width};
 ghost use Rattle.bb_elab.specs.Variables.{bit_count};
-ghost use Rattle.bb_elab.specs.References.{range_in};
-ghost use Rattle.bb_elab.specs.Making.{first_bit, ref_bits};
-ghost use Rattle.bb_elab.specs.Numbers.{firsts_from};
+ghost use Rattle.bb_elab.specs.References.{ref_span};
+ghost use Rattle.bb_elab.specs.Making.{ref_bits};
+ghost use Rattle.bb_elab.specs.Numbers.{places_from};
+ghost use Rattle.bb_elab.specs.Uses.{AreNext};
 
-use crate::references::selected;
+use crate::references::{Span, selected};
 use crate::table::range_width;
 use bb_net::{Name, NetId, Variable};
 use bb_parse::Ref;
@@ -16,23 +17,30 @@ use indexmap::IndexMap;
 use std::alloc::{AllocError, Global};
 use std::marker::Model;
 
-/// The variables of a module, the number of the first bit of each, and then the number behind all bits.
+/// Where a variable's bits stand: the number of the first one, and the range.
+#[derive(Clone, Copy, Debug)]
+pub(crate) struct Place {
+    pub(crate) first: u32,
+    pub(crate) range: Option<(u32, u32)>,
+}
+
+/// The variables of a module, and the place of each, and then that of a scalar behind all others.
 #[derive(Drop)]
 pub(crate) struct Scope {
     table: IndexMap<Name, Variable>,
-    firsts: Vec<u32>,
+    places: Vec<Place>,
 }
 
 impl Model for Scope {
     ghost use Rattle.std.specs.Prelude.{List};
     ghost use Rattle.bb_net.specs.Bits.{Entry};
-    ghost use Rattle.bb_elab.specs.Numbers.{AreFirsts};
+    ghost use Rattle.bb_elab.specs.Numbers.{ArePlaces};
 
     ghost Value = { List Entry };
 
     ghost view = { λ s. s.table.entries };
 
-    ghost invariant = { λ s. AreFirsts s.table.entries s.firsts.items };
+    ghost invariant = { λ s. ArePlaces s.table.entries s.places.items };
 }
 
 /// Bits that stand together: from one number up to another.
@@ -58,7 +66,8 @@ impl Bits {
 
 /// The number behind a variable's bits, where it is a word.
 fn end_of(first: u32, range: Option<(u32, u32)>) -> Option<u32>
-    ensures { IfSome result (λ end. end ≡ first + range_width range) }
+    ensures some { IfSome result (λ end. end ≡ first + range_width range) }
+    ensures none { IfNone result (2 ^ 32 ≤ first + range_width range) }
 {
     match u32::try_from(range_width(range)) {
         Ok(width) => first.checked_add(width),
@@ -66,61 +75,72 @@ fn end_of(first: u32, range: Option<(u32, u32)>) -> Option<u32>
     }
 }
 
-/// The number of each variable's first bit, and then the number behind all bits.
-fn firsts_of(alloc: Global, table: &IndexMap<Name, Variable>) -> Result<Vec<u32>, AllocError>
-    ensures firsts { IfOk result (λ firsts. firsts.items ≡ firsts_from 0 table.now.entries) }
+/// The place of each variable, and then that of a scalar behind all others.
+fn places_of(alloc: Global, table: &IndexMap<Name, Variable>) -> Result<Vec<Place>, AllocError>
+    ensures places { IfOk result (λ places. places.items ≡ places_from 0 table.now.entries) }
     ensures few { OnOk result (bit_count table.now.entries + 1 < 2 ^ 32) }
 {
-    let mut firsts = Vec::with_capacity(alloc, table.len() + 1)?;
+    let mut places = Vec::with_capacity(alloc, table.len() + 1)?;
     let mut first: u32 = 0;
     for index in 0..table.len() {
         let (_, variable) = table.get_index(index).unwrap();
-        firsts.push(first)?;
-        let Some(end) = end_of(first, variable.range) else {
+        let range = variable.range;
+        places.push(Place { first, range })?;
+        let Some(end) = end_of(first, range) else {
             return Err(AllocError);
         };
         first = end;
     }
-    // A name that is no variable is a scalar behind all bits: that one has a number too.
+    // The scalar behind all others has a number too.
     let Some(_) = first.checked_add(1) else {
         return Err(AllocError);
     };
-    firsts.push(first)?;
-    Ok(firsts)
+    places.push(Place { first, range: None })?;
+    Ok(places)
 }
 
 impl Scope {
-    /// The variables with the numbers of their bits. (Numbers run out long after the limit on bits.)
+    /// The variables with the places of their bits. (Numbers run out long after the limit on bits.)
     pub(crate) fn new(alloc: Global, table: IndexMap<Name, Variable>) -> Result<Scope, AllocError>
         ensures { IfOk result (λ scope. scope ≡ table.entries) }
     {
-        let firsts = firsts_of(alloc, &table)?;
-        Ok(Scope { table, firsts })
+        let places = places_of(alloc, &table)?;
+        Ok(Scope { table, places })
     }
 
-    /// The number of a variable's first bit, and its range. A name that is none is a scalar behind all others.
-    fn variable(&self, name: &Name) -> (u32, Option<(u32, u32)>)
-        ensures first { result.0 ≡ first_bit self.now name.now }
-        ensures range { result.1 ≡ range_in self.now name.now }
-        ensures few { result.0 + range_width result.1 < 2 ^ 32 }
+    /// The place of the variable of this index.
+    fn place(&self, index: u32) -> Place
+        requires { index ≤ length self.now }
+        ensures place { slice_get (places_from 0 self.now) index ≡ Some result }
+        ensures few { result.first + range_width result.range < 2 ^ 32 }
     {
-        match self.table.get_full(name) {
-            Some((index, _, variable)) => (self.firsts[index], variable.range),
-            None => (self.firsts[self.table.len()], None),
-        }
+        self.places[index as usize]
     }
 
-    /// The bits that a reference names, none where its select is bad.
-    pub(crate) fn bits(&self, reference: &Ref) -> Bits
+    /// The span that a reference names, whose variable is the first of `uses`, none where its select is bad.
+    pub(crate) fn span(&self, uses: &[u32], reference: &Ref) -> Option<Span>
+        requires { AreNext self.now (reference.now.name ∷ []) uses.now }
+        ensures { result ≡ ref_span self.now reference.now }
+    {
+        let place = self.place(uses[0]);
+        selected(place.range, reference.select)
+    }
+
+    /// The bits that a reference names, whose variable is the first of `uses`, none where its select is bad.
+    pub(crate) fn bits(&self, uses: &[u32], reference: &Ref) -> Bits
+        requires { AreNext self.now (reference.now.name ∷ []) uses.now }
         ensures order { result.first ≤ result.end }
         ensures bits { range_with_len result.first (result.end - result.first) ≡ ref_bits self.now reference.now }
     {
-        let (first, range) = self.variable(&reference.name);
-        match selected(range, reference.select) {
-            None => Bits { first, end: first },
+        let place = self.place(uses[0]);
+        match selected(place.range, reference.select) {
+            None => Bits {
+                first: place.first,
+                end: place.first,
+            },
             Some(span) => Bits {
-                first: first + span.first,
-                end: first + span.first + span.width as u32,
+                first: place.first + span.first,
+                end: place.first + span.first + span.width as u32,
             },
         }
     }

@@ -1,16 +1,20 @@
 //! The widths of values, and how many nets expressions make.
 
 ghost use Rattle.std.specs.Prelude.{◌≡◌, ◌<◌, ◌≤◌, ◌^◌, ◌+◌, ◌∷◌, [], ℕ, length, take, drop, OnOk, IfOk, IfErr, IfNone, IfSome, Some, None, false};
+ghost use Rattle.bb_parse.specs.declared.syntax.Step.TheVariants as step;
 ghost use Rattle.bb_elab.specs.References.{ref_fault, ref_span, width_of, width_limit};
+ghost use Rattle.bb_elab.specs.Names.{step_names, steps_names};
 ghost use Rattle.bb_elab.specs.Variables.{told};
+ghost use Rattle.bb_elab.specs.Uses.{AreNext};
 ghost use Rattle.bb_elab.specs.Counts.{Counts};
-ghost use Rattle.bb_elab.specs.Sizes.{width, of_nets, total, too_wide, differs, own_nets, two_fault, choice_fault, repeat_fault, step_fault, not_stack, two_stack, choice_stack, repeat_stack, step_stack, not_nets, two_nets, choice_nets, step_nets, steps_fault, steps_stack, steps_nets, last_size, expr_fault, terminal_nets, value_nets};
+ghost use Rattle.bb_elab.specs.Cells.{is_plain};
+ghost use Rattle.bb_elab.specs.Sizes.{width, of_nets, total, too_wide, differs, own_nets, two_fault, choice_fault, repeat_fault, step_fault, not_stack, two_stack, choice_stack, repeat_stack, step_stack, not_nets, two_nets, choice_nets, step_nets, is_last, steps_fault, steps_stack, steps_nets, last_size, expr_fault, terminal_nets, value_nets};
 
 use crate::ElabFault;
-use crate::references::{WIDTH_LIMIT, ref_span, span_fault};
-use bb_net::{Name, Variable};
+use crate::references::{WIDTH_LIMIT, bits_of, span_fault};
+use crate::scope::Scope;
+use crate::uses::behind_step;
 use bb_parse::{Ref, Step};
-use indexmap::IndexMap;
 use std::alloc::{AllocError, Global};
 use std::marker::Model;
 
@@ -218,15 +222,17 @@ fn without_nets(fault: Option<ElabFault>) -> Result<u64, ElabFault>
 
 /// A reference becomes a value.
 fn push_ref(
-    table: &IndexMap<Name, Variable>,
+    scope: &Scope,
     stack: &mut Stack,
     line: u32,
+    uses: &[u32],
     reference: &Ref,
 ) -> Result<Option<ElabFault>, AllocError>
-    ensures fault { IfOk result (λ fault. fault ≡ ref_fault table.now.entries line reference.now) }
-    ensures stack { IfOk result (λ fault. fault ≡ None → stack.new ≡ of_nets (width_of (ref_span table.now.entries reference.now)) ∷ stack.old) }
+    requires { AreNext scope.now (reference.now.name ∷ []) uses.now }
+    ensures fault { IfOk result (λ fault. fault ≡ ref_fault scope.now line reference.now) }
+    ensures stack { IfOk result (λ fault. fault ≡ None → stack.new ≡ of_nets (width_of (ref_span scope.now reference.now)) ∷ stack.old) }
 {
-    match ref_span(table, reference) {
+    match scope.span(uses, reference) {
         None => Ok(Some(ElabFault::BadSelect { line })),
         Some(span) => push_wide(stack, line, span.width, 0),
     }
@@ -234,17 +240,19 @@ fn push_ref(
 
 /// A step of an expression, which drives targets or not.
 fn step(
-    table: &IndexMap<Name, Variable>,
+    scope: &Scope,
     line: u32,
     drives: bool,
+    uses: &[u32],
     step: &Step,
     stack: &mut Stack,
 ) -> Result<Result<u64, ElabFault>, AllocError>
-    ensures counts { IfOk result (λ found. Counts (step_fault table.now.entries line step.now stack.old) (step_nets drives step.now stack.old) found) }
-    ensures stack { IfOk result (λ found. OnOk found (stack.new ≡ step_stack table.now.entries step.now stack.old)) }
+    requires { AreNext scope.now (step_names step.now) uses.now }
+    ensures counts { IfOk result (λ found. Counts (step_fault scope.now line step.now stack.old) (step_nets drives step.now stack.old) found) }
+    ensures stack { IfOk result (λ found. OnOk found (stack.new ≡ step_stack scope.now step.now stack.old)) }
 {
     match step {
-        Step::Ref(reference) => Ok(without_nets(push_ref(table, stack, line, reference)?)),
+        Step::Ref(reference) => Ok(without_nets(push_ref(scope, stack, line, uses, reference)?)),
         Step::Const { size, value: _ } => {
             stack.push(Size {
                 nets: 0,
@@ -274,42 +282,86 @@ fn last_size(stack: &mut Stack) -> Size
     }
 }
 
+/// Whether no step stands behind this one.
+fn is_at_end(steps: &[Step], index: usize) -> bool
+    requires { index < length steps.now }
+    ensures { result ≡ is_last (drop (index + 1) steps.now) }
+{
+    index + 1 == steps.len()
+}
+
 /// The size of an expression's value, and the nets that its steps make, of which the last one drives targets or not.
+#[tactic(auto, using(crate::proofs::UseLaws::use_laws))]
 fn walk(
     alloc: Global,
-    table: &IndexMap<Name, Variable>,
+    scope: &Scope,
     line: u32,
     drives: bool,
+    uses: &[u32],
     steps: &[Step],
 ) -> Result<Result<(Size, u64), ElabFault>, AllocError>
-    ensures fault { IfOk result (λ found. IfErr found (λ fault. steps_fault table.now.entries line steps.now [] ≡ Some fault)) }
-    ensures fine { IfOk result (λ found. OnOk found (steps_fault table.now.entries line steps.now [] ≡ None)) }
-    ensures size { IfOk result (λ found. IfOk found (λ value. value.0 ≡ last_size (steps_stack table.now.entries steps.now []))) }
+    requires { AreNext scope.now (steps_names steps.now) uses.now }
+    ensures fault { IfOk result (λ found. IfErr found (λ fault. steps_fault scope.now line steps.now [] ≡ Some fault)) }
+    ensures fine { IfOk result (λ found. OnOk found (steps_fault scope.now line steps.now [] ≡ None)) }
+    ensures size { IfOk result (λ found. IfOk found (λ value. value.0 ≡ last_size (steps_stack scope.now steps.now []))) }
     ensures narrow { IfOk result (λ found. IfOk found (λ value. width value.0 ≤ width_limit)) }
-    ensures nets { IfOk result (λ found. IfOk found (λ value. value.1 ≡ told (steps_nets table.now.entries drives steps.now []))) }
+    ensures nets { IfOk result (λ found. IfOk found (λ value. value.1 ≡ told (steps_nets scope.now drives steps.now []))) }
 {
     let mut stack = Stack::new(alloc);
     let mut nets: u64 = 0;
+    let mut rest = uses;
     for (index, one) in steps.iter().enumerate() {
-        let last = index + 1 == steps.len();
-        match step(table, line, drives && last, one, &mut stack)? {
+        let driving = drives && is_at_end(steps, index);
+        match step(scope, line, driving, rest, one, &mut stack)? {
             Ok(more) => nets = nets.saturating_add(more),
             Err(fault) => return Ok(Err(fault)),
         }
+        rest = behind_step(rest, one);
     }
     Ok(Ok((last_size(&mut stack), nets)))
+}
+
+/// The reference that an expression is, where it is one.
+fn only_reference(steps: &[Step]) -> Option<&Ref>
+    ensures some { IfSome result (λ reference. steps.now ≡ step.Ref reference.now ∷ []) }
+    ensures none { IfNone result (is_plain steps.now ≡ false) }
+{
+    match steps {
+        [Step::Ref(reference)] => Some(reference),
+        _ => None,
+    }
+}
+
+/// The nets of a reference at a terminal or pin, which are none, or its fault. Most terminals are references, so they get no stack.
+fn plain_terminal(scope: &Scope, line: u32, uses: &[u32], reference: &Ref) -> Result<u64, ElabFault>
+    requires { AreNext scope.now (reference.now.name ∷ []) uses.now }
+    ensures { Counts (expr_fault scope.now line 1 (step.Ref reference.now ∷ [])) 0 result }
+{
+    let span = scope.span(uses, reference);
+    if let Some(fault) = span_fault(line, span) {
+        return Err(fault);
+    }
+    if bits_of(span) != 1 {
+        return Err(ElabFault::WidthDiffers { line });
+    }
+    Ok(0)
 }
 
 /// The nets of an expression at a terminal or pin, which must have one bit, or the first fault.
 pub(crate) fn terminal(
     alloc: Global,
-    table: &IndexMap<Name, Variable>,
+    scope: &Scope,
     line: u32,
+    uses: &[u32],
     steps: &[Step],
 ) -> Result<Result<u64, ElabFault>, AllocError>
-    ensures { IfOk result (λ found. Counts (expr_fault table.now.entries line 1 steps.now) (told (terminal_nets table.now.entries steps.now)) found) }
+    requires { AreNext scope.now (steps_names steps.now) uses.now }
+    ensures { IfOk result (λ found. Counts (expr_fault scope.now line 1 steps.now) (told (terminal_nets scope.now steps.now)) found) }
 {
-    match walk(alloc, table, line, false, steps)? {
+    if let Some(reference) = only_reference(steps) {
+        return Ok(plain_terminal(scope, line, uses, reference));
+    }
+    match walk(alloc, scope, line, false, uses, steps)? {
         Err(fault) => Ok(Err(fault)),
         Ok((size, nets)) => {
             if width(size) != 1 {
@@ -323,14 +375,16 @@ pub(crate) fn terminal(
 /// The nets of an assign's expression, which must have this width, or the first fault.
 pub(crate) fn value(
     alloc: Global,
-    table: &IndexMap<Name, Variable>,
+    scope: &Scope,
     line: u32,
     wanted: u128,
+    uses: &[u32],
     steps: &[Step],
 ) -> Result<Result<u64, ElabFault>, AllocError>
-    ensures { IfOk result (λ found. Counts (expr_fault table.now.entries line wanted steps.now) (told (value_nets table.now.entries steps.now)) found) }
+    requires { AreNext scope.now (steps_names steps.now) uses.now }
+    ensures { IfOk result (λ found. Counts (expr_fault scope.now line wanted steps.now) (told (value_nets scope.now steps.now)) found) }
 {
-    match walk(alloc, table, line, true, steps)? {
+    match walk(alloc, scope, line, true, uses, steps)? {
         Err(fault) => Ok(Err(fault)),
         Ok((size, nets)) => {
             if width(size) as u128 != wanted {

@@ -2,11 +2,14 @@
 
 ghost use Rattle.std.specs.Prelude.{◌≡◌, ◌∷◌, [], ◌-◌, ◌^◌, ◌/◌, ◌%◌, ◌==◌, reverse, take, drop, OnOk, IfOk, IfSome, IfNone};
 ghost use Rattle.std.specs.List.{range_with_len};
+ghost use Rattle.bb_elab.specs.Names.{step_names, steps_names};
+ghost use Rattle.bb_elab.specs.Uses.{AreNext};
 ghost use Rattle.bb_elab.specs.Making.{as_value, const_bits, joined, copies, not_made, two_made, choice_made, repeat_made, step_made, steps_made, terminal_made, copied_onto, is_operator, assigned};
 ghost use Rattle.bb_elab.specs.Makes.{Makes, outs_in};
 
 use crate::bitwise::{chosen, grounded, inverted, joined_by};
 use crate::scope::{Bits, Scope};
+use crate::uses::behind_step;
 use crate::value::Bit;
 use crate::work::{Work, constant};
 use bb_net::{NetId, Op};
@@ -203,13 +206,15 @@ fn step_made(
     work: &mut Work,
     scope: &Scope,
     outs: Option<&[NetId]>,
+    uses: &[u32],
     step: &Step,
     stack: &mut Values,
 ) -> Result<(), AllocError>
+    requires { AreNext scope.now (step_names step.now) uses.now }
     ensures { OnOk result (Makes (step_made scope.now (outs_in outs.entry) step.now stack.old) work.old stack.new work.new) }
 {
     match step {
-        Step::Ref(reference) => stack.push(ref_value(work.alloc, scope.bits(reference))?),
+        Step::Ref(reference) => stack.push(ref_value(work.alloc, scope.bits(uses, reference))?),
         Step::Const { size, value } => stack.push(const_bits(work.alloc, *size, *value)?),
         Step::Not => not_made(work, outs, stack),
         Step::And => two_made(work, Op::And, outs, stack),
@@ -223,16 +228,21 @@ fn step_made(
 }
 
 /// Steps one after the other, whose gates drive new nets.
+#[tactic(auto, using(crate::proofs::UseLaws::use_laws))]
 fn steps_made(
     work: &mut Work,
     scope: &Scope,
+    uses: &[u32],
     steps: &[Step],
     stack: &mut Values,
 ) -> Result<(), AllocError>
+    requires { AreNext scope.now (steps_names steps.now) uses.now }
     ensures { OnOk result (Makes (steps_made scope.now steps.now stack.old) work.old stack.new work.new) }
 {
+    let mut rest = uses;
     for step in steps {
-        step_made(work, scope, None, step, stack)?;
+        step_made(work, scope, None, rest, step, stack)?;
+        rest = behind_step(rest, step);
     }
     Ok(())
 }
@@ -241,16 +251,18 @@ fn steps_made(
 pub(crate) fn terminal_made(
     work: &mut Work,
     scope: &Scope,
+    uses: &[u32],
     steps: &[Step],
 ) -> Result<Vec<NetId>, AllocError>
+    requires { AreNext scope.now (steps_names steps.now) uses.now }
     ensures { IfOk result (λ nets. Makes (terminal_made scope.now steps.now) work.old nets.items work.new) }
 {
     if let [Step::Ref(reference)] = steps {
-        let nets = scope.bits(reference).nets(work.alloc)?;
+        let nets = scope.bits(uses, reference).nets(work.alloc)?;
         return Ok(nets);
     }
     let mut stack = Values::new(work.alloc);
-    steps_made(work, scope, steps, &mut stack)?;
+    steps_made(work, scope, uses, steps, &mut stack)?;
     match stack.pop() {
         Some(value) => grounded(work, &value.bits),
         None => Ok(Vec::new(work.alloc)),
@@ -284,20 +296,25 @@ fn is_operator(step: &Step) -> bool
 }
 
 /// The gates of an assign: those of an operator that stands last drive the targets.
+#[tactic(auto, using(crate::proofs::UseLaws::use_laws))]
 pub(crate) fn assigned(
     work: &mut Work,
     scope: &Scope,
     targets: &[NetId],
+    uses: &[u32],
     steps: &[Step],
 ) -> Result<(), AllocError>
+    requires { AreNext scope.now (steps_names steps.now) uses.now }
     ensures { IfOk result (λ done. work.new ≡ (assigned scope.now targets.now steps.now [] work.old).1) }
 {
     let mut stack = Values::new(work.alloc);
+    let mut rest = uses;
     for (index, step) in steps.iter().enumerate() {
         if index + 1 == steps.len() && is_operator(step) {
-            return step_made(work, scope, Some(targets), step, &mut stack);
+            return step_made(work, scope, Some(targets), rest, step, &mut stack);
         }
-        step_made(work, scope, None, step, &mut stack)?;
+        step_made(work, scope, None, rest, step, &mut stack)?;
+        rest = behind_step(rest, step);
     }
     match stack.pop() {
         Some(value) => copied_onto(work, targets, &value.bits),

@@ -1,4 +1,4 @@
-//! The variables of a module.
+//! The variables of a module, and which of them each use of a name is.
 
 ghost use Rattle.std.specs.Prelude.{◌≡◌, ◌++◌, ◌∷◌, [], ℕ, ◌-◌, ◌+◌, ◌^◌, OnOk, IfOk, Some, None, fold, map, flat_map, find, min};
 ghost use Rattle.std.specs.Option.{option_map, option_copied};
@@ -8,6 +8,7 @@ ghost use Rattle.bb_elab.specs.Names.{is_reserved, steps_names, pin_names, item_
 ghost use Rattle.bb_elab.specs.Declarations.{declarations};
 ghost use Rattle.bb_elab.specs.Variables.{variables, bit_count, told, too_many};
 ghost use Rattle.bb_elab.specs.Said.{said_in, variable_said, with_variable, with_decl};
+ghost use Rattle.bb_elab.specs.Uses.{index_in, uses_of, with_use};
 
 use crate::ElabFault;
 use crate::said::Said;
@@ -15,6 +16,22 @@ use bb_net::{Name, Role, Variable};
 use bb_parse::{Conns, Decl, Expr, Header, Item, Module, Ref, Step};
 use indexmap::IndexMap;
 use std::alloc::{AllocError, Global};
+use std::marker::Model;
+
+/// The variables so far, and the index of the variable of each use so far.
+#[derive(Drop)]
+pub(crate) struct Used {
+    pub(crate) table: IndexMap<Name, Variable>,
+    pub(crate) uses: Vec<u32>,
+}
+
+impl Model for Used {
+    ghost use Rattle.bb_elab.specs.Uses.{Used as UsedValue};
+
+    ghost Value = { UsedValue };
+
+    ghost view = { λ u. record { vars = u.table.entries; uses = u.uses.items } };
+}
 
 /// The variable that is said.
 fn variable_said(said: Option<Said>) -> Variable
@@ -32,20 +49,46 @@ fn variable_said(said: Option<Said>) -> Variable
     }
 }
 
-/// Adds a name, unless it stands.
-fn add_name(
+/// A number of a variable as a word. (Numbers run out long after the limit on bits.)
+fn word(index: usize) -> Result<u32, AllocError>
+    ensures { IfOk result (λ word. word ≡ index) }
+{
+    match u32::try_from(index) {
+        Ok(word) => Ok(word),
+        Err(_) => Err(AllocError),
+    }
+}
+
+/// The index of the variable of a name, which is added unless it stands.
+fn index_of(
     alloc: Global,
     said: &IndexMap<Name, Said>,
     table: &mut IndexMap<Name, Variable>,
     name: &Name,
-) -> Result<(), AllocError>
-    ensures { OnOk result (table.new.entries ≡ with_variable said.now.entries table.old.entries name.now) }
+) -> Result<u32, AllocError>
+    ensures table { OnOk result (table.new.entries ≡ with_variable said.now.entries table.old.entries name.now) }
+    ensures index { IfOk result (λ index. index ≡ index_in table.old.entries name.now) }
 {
-    if table.get(name).is_some() {
-        return Ok(());
+    if let Some(index) = table.get_index_of(name) {
+        return word(index);
     }
+    let index = word(table.len())?;
     let variable = variable_said(said.get(name).copied());
     table.insert(name.copy(alloc)?, variable)?;
+    Ok(index)
+}
+
+/// Adds a use of a name.
+fn add_name(
+    alloc: Global,
+    said: &IndexMap<Name, Said>,
+    used: &mut Used,
+    name: &Name,
+) -> Result<(), AllocError>
+    ensures { OnOk result (used.new ≡ with_use said.now.entries used.old name.now) }
+{
+    let index = index_of(alloc, said, &mut used.table, name)?;
+    used.uses.push(index)?;
     Ok(())
 }
 
@@ -53,14 +96,14 @@ fn add_name(
 fn add_steps(
     alloc: Global,
     said: &IndexMap<Name, Said>,
-    table: &mut IndexMap<Name, Variable>,
+    used: &mut Used,
     steps: &[Step],
 ) -> Result<(), AllocError>
-    ensures { OnOk result (table.new.entries ≡ fold (with_variable said.now.entries) table.old.entries (steps_names steps.now)) }
+    ensures { OnOk result (used.new ≡ fold (with_use said.now.entries) used.old (steps_names steps.now)) }
 {
     for step in steps {
         if let Step::Ref(reference) = step {
-            add_name(alloc, said, table, &reference.name)?;
+            add_name(alloc, said, used, &reference.name)?;
         }
     }
     Ok(())
@@ -70,13 +113,13 @@ fn add_steps(
 fn add_terms(
     alloc: Global,
     said: &IndexMap<Name, Said>,
-    table: &mut IndexMap<Name, Variable>,
+    used: &mut Used,
     terms: &[Expr],
 ) -> Result<(), AllocError>
-    ensures { OnOk result (table.new.entries ≡ fold (with_variable said.now.entries) table.old.entries (flat_map steps_names terms.now)) }
+    ensures { OnOk result (used.new ≡ fold (with_use said.now.entries) used.old (flat_map steps_names terms.now)) }
 {
     for term in terms {
-        add_steps(alloc, said, table, term.as_slice())?;
+        add_steps(alloc, said, used, term.as_slice())?;
     }
     Ok(())
 }
@@ -85,14 +128,14 @@ fn add_terms(
 fn add_pins(
     alloc: Global,
     said: &IndexMap<Name, Said>,
-    table: &mut IndexMap<Name, Variable>,
+    used: &mut Used,
     pins: &[(Name, Option<Expr>)],
 ) -> Result<(), AllocError>
-    ensures { OnOk result (table.new.entries ≡ fold (with_variable said.now.entries) table.old.entries (flat_map (λ p. pin_names p.1) pins.now)) }
+    ensures { OnOk result (used.new ≡ fold (with_use said.now.entries) used.old (flat_map (λ p. pin_names p.1) pins.now)) }
 {
     for (_, expr) in pins {
         if let Some(expr) = expr {
-            add_steps(alloc, said, table, expr.as_slice())?;
+            add_steps(alloc, said, used, expr.as_slice())?;
         }
     }
     Ok(())
@@ -102,13 +145,13 @@ fn add_pins(
 fn add_refs(
     alloc: Global,
     said: &IndexMap<Name, Said>,
-    table: &mut IndexMap<Name, Variable>,
+    used: &mut Used,
     refs: &[Ref],
 ) -> Result<(), AllocError>
-    ensures { OnOk result (table.new.entries ≡ fold (with_variable said.now.entries) table.old.entries (map (λ r. r.name) refs.now)) }
+    ensures { OnOk result (used.new ≡ fold (with_use said.now.entries) used.old (map (λ r. r.name) refs.now)) }
 {
     for reference in refs {
-        add_name(alloc, said, table, &reference.name)?;
+        add_name(alloc, said, used, &reference.name)?;
     }
     Ok(())
 }
@@ -117,33 +160,33 @@ fn add_refs(
 fn add_item(
     alloc: Global,
     said: &IndexMap<Name, Said>,
-    table: &mut IndexMap<Name, Variable>,
+    used: &mut Used,
     item: &Item,
 ) -> Result<(), AllocError>
-    ensures { OnOk result (table.new.entries ≡ fold (with_variable said.now.entries) table.old.entries (item_names item.now)) }
+    ensures { OnOk result (used.new ≡ fold (with_use said.now.entries) used.old (item_names item.now)) }
 {
     match item {
-        Item::Decl(decl) => add_name(alloc, said, table, &decl.name),
+        Item::Decl(decl) => add_name(alloc, said, used, &decl.name),
         Item::Assign {
             line: _,
             left,
             right,
         } => {
-            add_refs(alloc, said, table, left.as_slice())?;
-            add_steps(alloc, said, table, right.as_slice())
+            add_refs(alloc, said, used, left.as_slice())?;
+            add_steps(alloc, said, used, right.as_slice())
         }
         Item::Prim {
             line: _,
             op: _,
             terms,
-        } => add_terms(alloc, said, table, terms.as_slice()),
+        } => add_terms(alloc, said, used, terms.as_slice()),
         Item::Cell {
             line: _,
             cell: _,
             conns,
         } => match conns {
-            Conns::Places(terms) => add_terms(alloc, said, table, terms.as_slice()),
-            Conns::Pins(pins) => add_pins(alloc, said, table, pins.as_slice()),
+            Conns::Places(terms) => add_terms(alloc, said, used, terms.as_slice()),
+            Conns::Pins(pins) => add_pins(alloc, said, used, pins.as_slice()),
         },
     }
 }
@@ -152,13 +195,13 @@ fn add_item(
 fn add_items(
     alloc: Global,
     said: &IndexMap<Name, Said>,
-    table: &mut IndexMap<Name, Variable>,
+    used: &mut Used,
     items: &[Item],
 ) -> Result<(), AllocError>
-    ensures { OnOk result (table.new.entries ≡ fold (with_variable said.now.entries) table.old.entries (flat_map item_names items.now)) }
+    ensures { OnOk result (used.new ≡ fold (with_use said.now.entries) used.old (flat_map item_names items.now)) }
 {
     for item in items {
-        add_item(alloc, said, table, item)?;
+        add_item(alloc, said, used, item)?;
     }
     Ok(())
 }
@@ -167,13 +210,13 @@ fn add_items(
 fn add_names(
     alloc: Global,
     said: &IndexMap<Name, Said>,
-    table: &mut IndexMap<Name, Variable>,
+    used: &mut Used,
     names: &[Name],
 ) -> Result<(), AllocError>
-    ensures { OnOk result (table.new.entries ≡ fold (with_variable said.now.entries) table.old.entries names.now) }
+    ensures { OnOk result (used.new ≡ fold (with_use said.now.entries) used.old names.now) }
 {
     for name in names {
-        add_name(alloc, said, table, name)?;
+        add_name(alloc, said, used, name)?;
     }
     Ok(())
 }
@@ -182,13 +225,13 @@ fn add_names(
 fn add_decls(
     alloc: Global,
     said: &IndexMap<Name, Said>,
-    table: &mut IndexMap<Name, Variable>,
+    used: &mut Used,
     decls: &[Decl],
 ) -> Result<(), AllocError>
-    ensures { OnOk result (table.new.entries ≡ fold (with_variable said.now.entries) table.old.entries (map (λ d. d.name) decls.now)) }
+    ensures { OnOk result (used.new ≡ fold (with_use said.now.entries) used.old (map (λ d. d.name) decls.now)) }
 {
     for decl in decls {
-        add_name(alloc, said, table, &decl.name)?;
+        add_name(alloc, said, used, &decl.name)?;
     }
     Ok(())
 }
@@ -197,30 +240,35 @@ fn add_decls(
 fn add_header(
     alloc: Global,
     said: &IndexMap<Name, Said>,
-    table: &mut IndexMap<Name, Variable>,
+    used: &mut Used,
     header: &Header,
 ) -> Result<(), AllocError>
-    ensures { OnOk result (table.new.entries ≡ fold (with_variable said.now.entries) table.old.entries (header_names header.now)) }
+    ensures { OnOk result (used.new ≡ fold (with_use said.now.entries) used.old (header_names header.now)) }
 {
     match header {
-        Header::Plain(names) => add_names(alloc, said, table, names.as_slice()),
-        Header::Ansi(decls) => add_decls(alloc, said, table, decls.as_slice()),
+        Header::Plain(names) => add_names(alloc, said, used, names.as_slice()),
+        Header::Ansi(decls) => add_decls(alloc, said, used, decls.as_slice()),
     }
 }
 
-/// The variables of a module, in the order of their first uses.
-pub(crate) fn variables(
+/// The variables of a module, in the order of their first uses, and the variable of each use in its items.
+pub(crate) fn table_of(
     alloc: Global,
     said: &IndexMap<Name, Said>,
     module: &Module,
-) -> Result<IndexMap<Name, Variable>, AllocError>
+) -> Result<Used, AllocError>
     requires { said.now.entries ≡ fold with_decl [] (declarations «module».now) }
-    ensures { IfOk result (λ table. table.entries ≡ variables «module».now) }
+    ensures vars { IfOk result (λ used. used.vars ≡ variables «module».now) }
+    ensures uses { IfOk result (λ used. used.uses ≡ uses_of (variables «module».now) (flat_map item_names «module».now.items)) }
 {
-    let mut table = IndexMap::new(alloc);
-    add_header(alloc, said, &mut table, &module.header)?;
-    add_items(alloc, said, &mut table, module.items.as_slice())?;
-    Ok(table)
+    let mut used = Used {
+        table: IndexMap::new(alloc),
+        uses: Vec::new(alloc),
+    };
+    add_header(alloc, said, &mut used, &module.header)?;
+    used.uses.clear();
+    add_items(alloc, said, &mut used, module.items.as_slice())?;
+    Ok(used)
 }
 
 /// Whether a name begins as this project's own do.

@@ -1,8 +1,10 @@
 //! The faults that a text shows before any gate is made, each tried where no earlier one was found.
 
-ghost use Rattle.std.specs.Prelude.{◌≡◌, OnOk, IfOk, IfErr, Some, None, fold, []};
+ghost use Rattle.std.specs.Prelude.{◌≡◌, OnOk, IfOk, IfErr, Some, None, fold, flat_map, []};
 ghost use Rattle.bb_elab.specs.Declarations.{declarations, redeclared};
 ghost use Rattle.bb_elab.specs.Said.{with_decl};
+ghost use Rattle.bb_elab.specs.Names.{item_names};
+ghost use Rattle.bb_elab.specs.Uses.{AreNext};
 ghost use Rattle.bb_elab.specs.Variables.{variables, bit_count, told};
 ghost use Rattle.bb_elab.specs.Text.{name_fault, part_fault, text_fault};
 
@@ -11,7 +13,8 @@ use crate::cells::unknown_cell;
 use crate::parts::items;
 use crate::ports::port_fault;
 use crate::said::{Said, declared};
-use crate::table::{bit_count, reserved_fault, too_many, variables};
+use crate::scope::Scope;
+use crate::table::{Used, bit_count, reserved_fault, table_of, too_many};
 use bb_net::{Name, Variable};
 use bb_parse::Module;
 use indexmap::IndexMap;
@@ -45,15 +48,17 @@ fn name_fault(
     Ok(too_many(own, bits))
 }
 
-/// The first fault of cells, pins, selects and widths, and of the nets that these make.
+/// The first fault of cells, pins, selects and widths, and of the nets that these make, where `uses` are those of the items.
 fn part_fault(
     alloc: Global,
     own: bool,
     module: &Module,
-    table: &IndexMap<Name, Variable>,
+    scope: &Scope,
+    uses: &[u32],
     bits: u64,
 ) -> Result<Option<ElabFault>, AllocError>
-    requires table { table.now.entries ≡ variables «module».now }
+    requires scope { scope.now ≡ variables «module».now }
+    requires uses { AreNext scope.now (flat_map item_names «module».now.items) uses.now }
     requires bits { bits ≡ told (bit_count (variables «module».now)) }
     ensures { IfOk result (λ fault. fault ≡ part_fault own «module».now) }
 {
@@ -61,32 +66,41 @@ fn part_fault(
     if let Some(fault) = unknown_cell(alloc, list)? {
         return Ok(Some(fault));
     }
-    match items(alloc, table, list)? {
+    match items(alloc, scope, uses, list)? {
         Err(fault) => Ok(Some(fault)),
         Ok(nets) => Ok(too_many(own, bits.saturating_add(nets))),
     }
 }
 
-/// The variables of a module, or the first fault of its text.
+/// The variables of a module whose text has no fault, and the variable of each use in its items.
+#[derive(Drop)]
+pub(crate) struct Bound {
+    pub(crate) scope: Scope,
+    pub(crate) uses: Vec<u32>,
+}
+
+/// The variables of a module and their uses, or the first fault of its text.
 pub(crate) fn checked(
     alloc: Global,
     own: bool,
     module: &Module,
-) -> Result<Result<IndexMap<Name, Variable>, ElabFault>, AllocError>
-    ensures table { IfOk result (λ found. IfOk found (λ table. table.entries ≡ variables «module».now)) }
+) -> Result<Result<Bound, ElabFault>, AllocError>
+    ensures scope { IfOk result (λ found. IfOk found (λ bound. bound.scope ≡ variables «module».now)) }
+    ensures uses { IfOk result (λ found. IfOk found (λ bound. AreNext bound.scope (flat_map item_names «module».now.items) bound.uses.items)) }
     ensures fine { IfOk result (λ found. OnOk found (text_fault own «module».now ≡ None)) }
     ensures fault { IfOk result (λ found. IfErr found (λ fault. text_fault own «module».now ≡ Some fault)) }
 {
     let (said, clash) = declared(alloc, module)?;
-    let table = variables(alloc, &said, module)?;
+    let Used { table, uses } = table_of(alloc, &said, module)?;
     let bits = bit_count(&table);
     if let Some(fault) = name_fault(alloc, own, module, &said, clash, &table, bits)? {
         return Ok(Err(fault));
     }
-    if let Some(fault) = part_fault(alloc, own, module, &table, bits)? {
+    let scope = Scope::new(alloc, table)?;
+    if let Some(fault) = part_fault(alloc, own, module, &scope, &uses, bits)? {
         return Ok(Err(fault));
     }
-    Ok(Ok(table))
+    Ok(Ok(Bound { scope, uses }))
 }
 
 /// The first fault of a module's text, before any gate is made: of names, declarations, ports, cells, pins, selects, widths

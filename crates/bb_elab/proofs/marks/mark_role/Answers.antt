@@ -1,6 +1,6 @@
 use Rattle.std.proofs.Common.{◌≡◌, ◌∙◌, arith, ◌+◌, ◌-◌, ◌^◌, min, drop, slice_get, Some}
 use Rattle.bb_net.specs.Bits.{Entry, range_width}
-use Rattle.bb_elab.specs.Origins.{is_role}
+use Rattle.bb_elab.specs.Tallies.{is_role}
 use Rattle.bb_elab.proofs.MarkLaws.{role_step, role_past}
 use Rattle.bb_elab.proofs.marks.mark_role.Goals as goal
 

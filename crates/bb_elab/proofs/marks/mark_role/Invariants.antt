@@ -1,6 +1,7 @@
 use Rattle.std.proofs.Common.{◌≡◌, ◌<◌, ℕ, ◌||◌, length, drop}
 use Rattle.bb_elab.specs.Nets.{bits_from, has_bit}
-use Rattle.bb_elab.specs.Origins.{is_marked, is_role}
+use Rattle.bb_elab.specs.Tallies.{is_role}
+use Rattle.bb_elab.specs.Origins.{is_marked}
 use Rattle.bb_elab.proofs.marks.mark_role.Given as goal
 
 abbrev pub invariant-vars : goal.invariant-vars

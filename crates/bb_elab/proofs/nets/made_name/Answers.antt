@@ -1,7 +1,7 @@
 use Rattle.std.proofs.Common.{rules, ◌≡◌, subst, sym}
 use Rattle.bb_net.specs.Name.{IsName}
 use Rattle.bb_elab.specs.Nets.{made_name}
-use Rattle.bb_elab.proofs.MadeNames.{made_is_name}
+use Rattle.bb_elab.proofs.PortLaws.{made_is_name}
 use Rattle.bb_elab.proofs.nets.made_name.Goals as goal
 
 pub new-requires : goal.new-requires

@@ -17,7 +17,7 @@ passed (Err e) f P h p = subst P (sym h) p
 pub returns-in_err-order-clause-fault : goal.returns-in_err-order-clause-fault
 returns-in_err-order-clause-fault c =
     let m = c.args.module.now in
-    let text : text_fault c.args.own m ≡ None = subst (λ r. OnOk r (text_fault c.args.own m ≡ None)) c.in-Ok.is c.in_ok-table.ensures.fine in
+    let text : text_fault c.args.own m ≡ None = subst (λ r. OnOk r (text_fault c.args.own m ≡ None)) c.in-Ok.is c.in_ok-bound.ensures.fine in
     let nets : net_fault (variables_in m) (work_in m) ≡ None = subst (λ r. OnOk r (net_fault (variables_in m) (work_in m) ≡ None)) c.in-Ok-2.is c.in_ok-named.ensures.fine in
     let valid : IsNamed (denoted m) = subst (λ r. OnOk r (IsNamed (denoted m))) c.in-Ok-2.is c.in_ok-named.ensures.valid in
     let value : c.in-Ok-2.named ≡ denoted m = subst (λ r. IfOk r (λ n. n ≡ denoted m)) c.in-Ok-2.is c.in_ok-named.ensures.named in

@@ -2,11 +2,15 @@ use Rattle.std.proofs.Common.{◌≡◌, ◌+◌, ◌<◌, ◌^◌, drop}
 use Rattle.bb_elab.specs.Firsts.{first_answer}
 use Rattle.bb_elab.specs.Variables.{told}
 use Rattle.bb_elab.specs.Parts.{pin_fault, pins_nets}
+use Rattle.std.specs.Prelude.{flat_map}
+use Rattle.bb_elab.specs.Names.{pin_names}
+use Rattle.bb_elab.specs.Uses.{AreNext}
 use Rattle.bb_elab.proofs.parts.pins.Given as goal
 
 abbrev pub invariant-loop-one : goal.invariant-loop-one
 invariant-loop-one l = record {
-  fault : first_answer (pin_fault l.table.entries l.line) (drop l.one-index l.pins) ≡ first_answer (pin_fault l.table.entries l.line) l.pins;
+  next : AreNext l.scope (flat_map (λ p. pin_names p.1) (drop l.one-index l.pins)) l.rest;
+  fault : first_answer (pin_fault l.scope l.line) (drop l.one-index l.pins) ≡ first_answer (pin_fault l.scope l.line) l.pins;
   few : l.nets < 2 ^ 64;
-  nets : told (l.nets + pins_nets l.table.entries (drop l.one-index l.pins)) ≡ told (pins_nets l.table.entries l.pins);
+  nets : told (l.nets + pins_nets l.scope (drop l.one-index l.pins)) ≡ told (pins_nets l.scope l.pins);
 }

@@ -3,11 +3,15 @@ use Rattle.bb_elab.specs.Firsts.{first_answer}
 use Rattle.bb_elab.specs.Variables.{told}
 use Rattle.bb_elab.specs.Sizes.{expr_fault}
 use Rattle.bb_elab.specs.Parts.{terms_nets}
+use Rattle.std.specs.Prelude.{flat_map}
+use Rattle.bb_elab.specs.Names.{steps_names}
+use Rattle.bb_elab.specs.Uses.{AreNext}
 use Rattle.bb_elab.proofs.parts.terms.Given as goal
 
 abbrev pub invariant-loop-term : goal.invariant-loop-term
 invariant-loop-term l = record {
-  fault : first_answer (expr_fault l.table.entries l.line 1) (drop l.term-index l.terms) ≡ first_answer (expr_fault l.table.entries l.line 1) l.terms;
+  next : AreNext l.scope (flat_map steps_names (drop l.term-index l.terms)) l.rest;
+  fault : first_answer (expr_fault l.scope l.line 1) (drop l.term-index l.terms) ≡ first_answer (expr_fault l.scope l.line 1) l.terms;
   few : l.nets < 2 ^ 64;
-  nets : told (l.nets + terms_nets l.table.entries (drop l.term-index l.terms)) ≡ told (terms_nets l.table.entries l.terms);
+  nets : told (l.nets + terms_nets l.scope (drop l.term-index l.terms)) ≡ told (terms_nets l.scope l.terms);
 }

@@ -1,12 +1,15 @@
 use Rattle.std.proofs.Common.{◌≡◌, [], ◌+◌, ◌<◌, ◌^◌, drop}
 use Rattle.bb_elab.specs.Variables.{told}
 use Rattle.bb_elab.specs.Sizes.{steps_fault, steps_stack, steps_nets}
+use Rattle.bb_elab.specs.Names.{steps_names}
+use Rattle.bb_elab.specs.Uses.{AreNext}
 use Rattle.bb_elab.proofs.sizes.walk.Given as goal
 
 abbrev pub invariant-loop-index : goal.invariant-loop-index
 invariant-loop-index l = record {
-  fault : steps_fault l.table.entries l.line (drop l.index l.steps) l.stack ≡ steps_fault l.table.entries l.line l.steps [];
-  stack : steps_stack l.table.entries (drop l.index l.steps) l.stack ≡ steps_stack l.table.entries l.steps [];
+  next : AreNext l.scope (steps_names (drop l.index l.steps)) l.rest;
+  fault : steps_fault l.scope l.line (drop l.index l.steps) l.stack ≡ steps_fault l.scope l.line l.steps [];
+  stack : steps_stack l.scope (drop l.index l.steps) l.stack ≡ steps_stack l.scope l.steps [];
   few : l.nets < 2 ^ 64;
-  nets : told (l.nets + steps_nets l.table.entries l.drives (drop l.index l.steps) l.stack) ≡ told (steps_nets l.table.entries l.drives l.steps []);
+  nets : told (l.nets + steps_nets l.scope l.drives (drop l.index l.steps) l.stack) ≡ told (steps_nets l.scope l.drives l.steps []);
 }

@@ -2,10 +2,10 @@ use Rattle.std.proofs.Common.{arith, ◌≡◌, ◌+◌, Some, drop, slice_get, 
 use Rattle.std.proofs.lemmas.Grind.{common_steps}
 use Rattle.bb_net.specs.Bits.{Entry, range_width}
 use Rattle.bb_elab.specs.Variables.{bit_count}
-use Rattle.bb_elab.specs.Numbers.{firsts_from}
+use Rattle.bb_elab.specs.Numbers.{places_from}
 use Rattle.bb_elab.proofs.TableLaws.{bits_next}
-use Rattle.bb_elab.proofs.ScopeLaws.{firsts_next}
-use Rattle.bb_elab.proofs.scope.firsts_of.Goals as goal
+use Rattle.bb_elab.proofs.ScopeLaws.{places_next}
+use Rattle.bb_elab.proofs.scope.places_of.Goals as goal
 
 pub loop-index-preserved : goal.loop-index-preserved
 loop-index-preserved c =
@@ -14,12 +14,12 @@ loop-index-preserved c =
     let first = c.loop-index.first in
     let v : Entry = (c.unwrap.result.0.now, c.unwrap.result.1.now) in
     let at : slice_get es i ≡ Some v = grind (arith, c.get_index.ensures.entry, c.unwrap.ensures) in
-    let next = firsts_next first es i v at in
+    let next = places_next first es i v at in
     let count = bits_next es i v at in
-    let end : c.in-Some.end ≡ first + range_width v.1.range = c.in-Some.ensures in
-    let more : firsts_from c.in-Some.end (drop (i + 1) es) ≡ firsts_from (first + range_width v.1.range) (drop (i + 1) es) = ap (λ e. firsts_from e (drop (i + 1) es)) end in
+    let end : c.in-Some.end ≡ first + range_width v.1.range = c.in-Some.ensures.some in
+    let more : places_from c.in-Some.end (drop (i + 1) es) ≡ places_from (first + range_width v.1.range) (drop (i + 1) es) = ap (λ e. places_from e (drop (i + 1) es)) end in
     record {
-      firsts = grind (arith, common_steps, next, more, c.loop-index.invariant.firsts, c.in_ok-push.ensures.items);
+      places = grind (arith, common_steps, next, more, c.loop-index.invariant.places, c.in_ok-push.ensures.items);
       count = omega (arith, end, count, c.loop-index.invariant.count);
     }
 
