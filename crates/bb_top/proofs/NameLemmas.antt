@@ -2,16 +2,9 @@
 use Rattle.std.proofs.Common.{◌≡◌, ℕ, ◌+◌, ◌%◌, ◌<◌, ◌≤◌, ◌^◌, List, [], ◌∷◌, ◌++◌, length, length-append, All, decimal, sym, subst, arith}
 use Rattle.std.specs.List.{AllByRecursion}
 use Rattle.std.proofs.lemmas.List.Elements.{All-append, All-from_recursion}
-use Rattle.std.proofs.lemmas.Fmt.{decimal_by_steps, length-decimal-le, decimal_nonempty}
+use Rattle.std.proofs.lemmas.Fmt.{length-decimal-le, decimal_nonempty}
 use Rattle.bb_net.specs.Name.{IsName, IsNameByte}
-use Rattle.bb_net.proofs.Lists.{all_join}
-
--- digits are bytes of names
-pub decimal_plain : (n : ℕ) → n < 2 ^ 64 → All IsNameByte (decimal n)
-decimal_plain n h =
-    All-from_recursion IsNameByte (decimal n)
-    (decimal_by_steps (λ m ds. AllByRecursion IsNameByte ds) (λ m less. ((omega arith, omega arith), tt))
-    (λ m ds past k. let digit : m % 10 < 10 = omega arith in all_join IsNameByte ds ((48 + m % 10) ∷ []) k ((omega arith, omega arith), tt)) n h)
+use Rattle.bb_elab.proofs.PortLaws.{decimal_plain}
 
 pub numbered_name : (front text : List ℕ) (n : ℕ) → n < 2 ^ 32 → length front ≤ 8 → All IsNameByte front → text ≡ front ++ decimal n → IsName text
 numbered_name front text n small short plain e =
@@ -20,5 +13,5 @@ numbered_name front text n small short plain e =
     (record {
       some = omega (arith, length-append front (decimal n), decimal_nonempty n (omega arith));
       short = omega (arith, length-append front (decimal n), long);
-      plain = All-append IsNameByte front (decimal n) plain (decimal_plain n (omega arith));
+      plain = All-append IsNameByte front (decimal n) plain (All-from_recursion IsNameByte (decimal n) (decimal_plain n (omega arith)));
     })

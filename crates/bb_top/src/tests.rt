@@ -348,6 +348,43 @@ fn a_module_denotes_its_netlist(rt: HostRuntime) -> Result<(), TestFail> {
     Ok(())
 }
 
+/// The name of the last variable of what a text denotes, where names of its own are allowed or not.
+fn last_variable(alloc: Global, text: &str, own: bool) -> Result<Vec<u8>, AllocError> {
+    let mut store = MemStore::new(alloc, Vec::new(alloc));
+    store.set("in.v", text.as_bytes())?;
+    let Ok((named, _)) = read_named(alloc, &mut store, "in.v", own, 10_000) else {
+        return Vec::from_slice(alloc, b"a fault");
+    };
+    match named.variables().checked_sub(1) {
+        Some(last) => Vec::from_slice(alloc, named.variable(last).0.bytes()),
+        None => Ok(Vec::new(alloc)),
+    }
+}
+
+#[test]
+fn a_made_net_has_the_first_name_that_is_no_variable(rt: HostRuntime) -> Result<(), TestFail> {
+    let rows = [
+        ("assign y = ~(~a);", false, "bt_w0"),
+        (
+            "wire bt_w0; not (bt_w0, a); assign y = ~(~bt_w0);",
+            true,
+            "bt_w1",
+        ),
+        // The name of an instance is no variable.
+        ("\\$_NOT_ bt_w0 (.A(a)); buf (y, a);", false, "bt_w0"),
+        // The net is the clock's and no net of the netlist, and its variable stays.
+        ("\\$_BUF_ u (.A(k)); dff f (k, y, a);", false, "bt_w0"),
+    ];
+    for (body, own, wanted) in rows {
+        let text = format!(in rt.alloc();
+            "module m (k, a, y); input k, a; output y;\n{body}\nendmodule\n"
+        )?;
+        let name = last_variable(rt.alloc(), text.as_str(), own)?;
+        assert!(rt; name.as_slice() == wanted.as_bytes(), "{body}");
+    }
+    Ok(())
+}
+
 #[test]
 fn faults_of_nets_name_the_least_net(rt: HostRuntime) -> Result<(), TestFail> {
     let rows = [
