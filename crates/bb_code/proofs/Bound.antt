@@ -1,12 +1,13 @@
 -- the counting bound: where no column is left, all numbers of a degree are in the spans, which have no more numbers than their sizes added up
-use Rattle.std.proofs.Common.{◌≡◌, ℕ, ◌+◌, ◌-◌, ◌*◌, ◌<◌, ◌≤◌, ◌^◌, suc, List, [], ◌∷◌, ◌++◌, length, map, Bool, true, false, cond, eqb, ◌||◌, refl, sym, ap, ◌∙◌, subst, arith, bit_xor, ⊎_elim, length-append}
+use Rattle.std.proofs.Common.{◌≡◌, ℕ, ◌+◌, ◌-◌, ◌*◌, ◌<◌, ◌≤◌, ◌^◌, suc, List, [], ◌∷◌, ◌++◌, length, map, Bool, true, false, cond, eqb, refl, sym, ap, ◌∙◌, subst, arith, bit_xor, ⊎_elim, length-append}
 use Rattle.std.specs.List.{list_any, flat_map, AllByRecursion}
 use Rattle.std.proofs.lemmas.Bool.{cases_eq, eq-eqb, or_right, or_left, false_from_ne_true, both_ways}
+use Rattle.std.proofs.lemmas.List.Folds.{list_any-append}
 use Rattle.std.proofs.lemmas.Map.Steps.{le-length_from_below}
 use Rattle.std.proofs.Math.Nat.{pow-suc, pow-le-pow_right}
 use Rattle.bb_gf2.specs.Span.{IsInSpan, IsInCoset}
 use Rattle.bb_code.specs.Segments.{AreWithin, ListSources, lists, listing}
-use Rattle.bb_code.specs.Columns.{given, forbidding, IsFree, IsStuck}
+use Rattle.bb_code.specs.Columns.{given_columns, forbidding, IsFree, IsStuckSource}
 use Rattle.bb_code.specs.Marks.{sizes}
 use Rattle.bb_code.proofs.Spans.{coset_split, coset_none, coset_itself}
 use Rattle.bb_code.proofs.Given.{length_given_listed}
@@ -27,16 +28,10 @@ length_coset (r ∷ rows) v =
 
 -- membership in joined lists
 any_left : (w : ℕ) (xs ys : List ℕ) → list_any (eqb w) xs ≡ true → list_any (eqb w) (xs ++ ys) ≡ true
-any_left w [] ys e = absurd cc
-any_left w (x ∷ xs) ys e = go (eqb w x) e (any_left w xs ys)
-  where
-    go : (b : Bool) → (b || list_any (eqb w) xs) ≡ true → (list_any (eqb w) xs ≡ true → list_any (eqb w) (xs ++ ys) ≡ true) → (b || list_any (eqb w) (xs ++ ys)) ≡ true
-    go true e more = refl
-    go false e more = more e
+any_left w xs ys e = list_any-append (eqb w) xs ys ∙ or_left (list_any (eqb w) xs) (list_any (eqb w) ys) e
 
 any_right : (w : ℕ) (xs ys : List ℕ) → list_any (eqb w) ys ≡ true → list_any (eqb w) (xs ++ ys) ≡ true
-any_right w [] ys e = e
-any_right w (x ∷ xs) ys e = or_right (eqb w x) (list_any (eqb w) (xs ++ ys)) (any_right w xs ys e)
+any_right w xs ys e = list_any-append (eqb w) xs ys ∙ or_right (list_any (eqb w) xs) (list_any (eqb w) ys) e
 
 -- the list of a coset has its members
 in_coset : (rows : List ℕ) (v w : ℕ) → IsInCoset rows v w → list_any (eqb w) (coset rows v) ≡ true
@@ -111,31 +106,31 @@ more : (a b c n : ℕ) → a ≤ c → b ≤ n * c → a + b ≤ suc n * c
 more a b c n h k = grind arith
 
 sizes_within : (columns : List ℕ) (segments : List (List ℕ)) (n size : ℕ) → length columns ≡ n → AllByRecursion (λ segment. length segment ≤ size) segments
-    → sizes (map (given columns) (listing segments n)) ≤ length (listing segments n) * 2 ^ (size - 1)
+    → sizes (map (given_columns columns) (listing segments n)) ≤ length (listing segments n) * 2 ^ (size - 1)
 sizes_within columns [] n size e h = omega arith
 sizes_within columns (segment ∷ segments) n size e h = go (lists n segment) refl (sizes_within columns segments n size e h.1)
   where
-    go : (b : Bool) → lists n segment ≡ b → sizes (map (given columns) (listing segments n)) ≤ length (listing segments n) * 2 ^ (size - 1)
-        → sizes (map (given columns) (cond b (segment ∷ listing segments n) (listing segments n))) ≤ length (cond b (segment ∷ listing segments n) (listing segments n)) * 2 ^ (size - 1)
+    go : (b : Bool) → lists n segment ≡ b → sizes (map (given_columns columns) (listing segments n)) ≤ length (listing segments n) * 2 ^ (size - 1)
+        → sizes (map (given_columns columns) (cond b (segment ∷ listing segments n) (listing segments n))) ≤ length (cond b (segment ∷ listing segments n) (listing segments n)) * 2 ^ (size - 1)
     go true s rest =
-        let short : length (given columns segment) < length segment = length_given_listed columns segment (ap (λ k. lists k segment) e ∙ s) in
+        let short : length (given_columns columns segment) < length segment = length_given_listed columns segment (ap (λ k. lists k segment) e ∙ s) in
         let within = h.0 in
-        let less : length (given columns segment) ≤ size - 1 = omega (arith, short, within) in
-        let one : 2 ^ length (given columns segment) ≤ 2 ^ (size - 1) = pow-le-pow_right (omega arith) less in
-        more (2 ^ length (given columns segment)) (sizes (map (given columns) (listing segments n))) (2 ^ (size - 1)) (length (listing segments n)) one rest
+        let less : length (given_columns columns segment) ≤ size - 1 = omega (arith, short, within) in
+        let one : 2 ^ length (given_columns columns segment) ≤ 2 ^ (size - 1) = pow-le-pow_right (omega arith) less in
+        more (2 ^ length (given_columns columns segment)) (sizes (map (given_columns columns) (listing segments n))) (2 ^ (size - 1)) (length (listing segments n)) one rest
     go false s rest = rest
 
 -- a source in no segment can take 1
-pub stuck_listed : (degree source : ℕ) (segments : List (List ℕ)) → 1 ≤ degree → IsStuck degree segments source → ListSources segments
+pub stuck_listed : (degree source : ℕ) (segments : List (List ℕ)) → 1 ≤ degree → IsStuckSource degree segments source → ListSources segments
 stuck_listed degree source segments some stuck = (length stuck.columns, go (listing segments (length stuck.columns)) stuck.none)
   where
-    go : (found : List (List ℕ)) → ((column : ℕ) → IsFree degree (map (given stuck.columns) found) column → ⊥) → 0 < length found
+    go : (found : List (List ℕ)) → ((column : ℕ) → IsFree degree (map (given_columns stuck.columns) found) column → ⊥) → 0 < length found
     go [] none =
         let grown : 2 ^ 1 ≤ 2 ^ degree = pow-le-pow_right (omega arith) some in
         absurd (none 1 (record { nonzero = omega arith; fits = omega (arith, grown); outside = tt }))
     go (segment ∷ found) none = omega arith
 
-pub stuck_bound : (degree source listed size : ℕ) (segments : List (List ℕ)) → 1 ≤ degree → IsStuck degree segments source → AreWithin listed size segments
+pub stuck_bound : (degree source listed size : ℕ) (segments : List (List ℕ)) → 1 ≤ degree → IsStuckSource degree segments source → AreWithin listed size segments
     → 2 ^ degree ≤ listed * 2 ^ (size - 1)
 stuck_bound degree source listed size segments some stuck within =
     let columns = stuck.columns in

@@ -1,7 +1,7 @@
 -- the least degree from the columns at the highest one, and what it means that there is none
 use Rattle.std.proofs.Common.{◌≡◌, ℕ, ◌<◌, ◌≤◌, ◌^◌, List, get_or, sym, ◌∙◌, subst, arith}
 use Rattle.std.specs.List.{EachIndex}
-use Rattle.bb_gf2.specs.Span.{IsLeast}
+use Rattle.bb_base.specs.Firsts.{IsLeast}
 use Rattle.bb_code.specs.Columns.{AreAllColumns}
 use Rattle.bb_code.specs.Degree.{IsCodeDegree, IsFitting, IsNeed}
 use Rattle.bb_code.specs.declared.fault.Need.{Need}

@@ -1,25 +1,20 @@
 -- where the counting bound allows it there are columns for all sources: the search for the next one can't fail
-use Rattle.std.proofs.Common.{◌≡◌, ℕ, ◌-◌, ◌*◌, ◌<◌, ◌≤◌, ◌^◌, zero, suc, List, [], ◌∷◌, ◌++◌, Bool, true, false, eqb, ◌||◌, refl, sym, subst, arith, bit_xor, ◌⊎◌, inl, inr, ⊎_elim}
+use Rattle.std.proofs.Common.{◌≡◌, ℕ, ◌-◌, ◌*◌, ◌<◌, ◌≤◌, ◌^◌, zero, suc, List, [], ◌∷◌, ◌++◌, Bool, true, false, eqb, refl, sym, ◌∙◌, subst, arith, bit_xor, ◌⊎◌, inl, inr, ⊎_elim}
 use Rattle.std.specs.List.{list_any, AllByRecursion}
 use Rattle.std.proofs.lemmas.Bool.{cases_lt, cases_eq, eqb-true, or_cases}
 use Rattle.std.proofs.lemmas.List.{length_push}
-use Rattle.bb_gf2.specs.Span.{IsInSpan, IsInCoset, IsLeast}
+use Rattle.std.proofs.lemmas.List.Folds.{list_any-append}
+use Rattle.bb_gf2.specs.Span.{IsInSpan, IsInCoset}
+use Rattle.bb_base.specs.Firsts.{IsLeast}
 use Rattle.bb_code.specs.Segments.{AreWithin, ListSources}
-use Rattle.bb_code.specs.Columns.{forbidding, IsFree, AreAllColumns, IsStuck}
+use Rattle.bb_code.specs.Columns.{forbidding, IsFree, AreAllColumns, IsStuckSource}
 use Rattle.bb_code.proofs.Spans.{coset_itself, coset_with, coset_without}
 use Rattle.bb_code.proofs.Bound.{coset, inside, outside_all, stuck_bound, stuck_listed}
 use Rattle.bb_code.proofs.OneChoice.{columns_push}
 
 -- membership in joined lists
 any_split : (w : ℕ) (xs ys : List ℕ) → list_any (eqb w) (xs ++ ys) ≡ true → (list_any (eqb w) xs ≡ true) ⊎ (list_any (eqb w) ys ≡ true)
-any_split w [] ys e = inr e
-any_split w (x ∷ xs) ys e = go (eqb w x) e (any_split w xs ys)
-  where
-    go : (b : Bool) → (b || list_any (eqb w) (xs ++ ys)) ≡ true
-        → (list_any (eqb w) (xs ++ ys) ≡ true → (list_any (eqb w) xs ≡ true) ⊎ (list_any (eqb w) ys ≡ true))
-        → ((b || list_any (eqb w) xs) ≡ true) ⊎ (list_any (eqb w) ys ≡ true)
-    go true e more = inl refl
-    go false e more = more e
+any_split w xs ys e = or_cases (list_any (eqb w) xs) (list_any (eqb w) ys) (sym (list_any-append (eqb w) xs ys) ∙ e)
 
 -- the list of a coset has its members alone
 from_coset : (rows : List ℕ) (v w : ℕ) → list_any (eqb w) (coset rows v) ≡ true → IsInCoset rows v w
@@ -78,17 +73,17 @@ next_or_none degree spans = go (find_missing (inside spans) (2 ^ degree))
 
 -- all sources have columns, or one is stuck
 pub columns_or_stuck : (degree : ℕ) (segments : List (List ℕ)) (sources : ℕ)
-    → ((columns : List ℕ) × AreAllColumns degree segments sources columns) ⊎ ((source : ℕ) × (source < sources) × IsStuck degree segments source)
+    → ((columns : List ℕ) × AreAllColumns degree segments sources columns) ⊎ ((source : ℕ) × (source < sources) × IsStuckSource degree segments source)
 columns_or_stuck degree segments zero = inl ([], record { one_each = refl; chosen = λ source lt. absurd (omega (arith, lt)) })
 columns_or_stuck degree segments (suc n) = go (columns_or_stuck degree segments n)
   where
-    go : ((columns : List ℕ) × AreAllColumns degree segments n columns) ⊎ ((source : ℕ) × (source < n) × IsStuck degree segments source)
-        → ((columns : List ℕ) × AreAllColumns degree segments (suc n) columns) ⊎ ((source : ℕ) × (source < suc n) × IsStuck degree segments source)
+    go : ((columns : List ℕ) × AreAllColumns degree segments n columns) ⊎ ((source : ℕ) × (source < n) × IsStuckSource degree segments source)
+        → ((columns : List ℕ) × AreAllColumns degree segments (suc n) columns) ⊎ ((source : ℕ) × (source < suc n) × IsStuckSource degree segments source)
     go (inr stuck) = let lt = stuck.1 in inr (stuck.0, omega (arith, lt), stuck.2)
     go (inl (columns, h)) = by_next (next_or_none degree (forbidding segments columns))
       where
         by_next : ((v : ℕ) × IsLeast (IsFree degree (forbidding segments columns)) v) ⊎ ((v : ℕ) → IsFree degree (forbidding segments columns) v → ⊥)
-            → ((columns : List ℕ) × AreAllColumns degree segments (suc n) columns) ⊎ ((source : ℕ) × (source < suc n) × IsStuck degree segments source)
+            → ((columns : List ℕ) × AreAllColumns degree segments (suc n) columns) ⊎ ((source : ℕ) × (source < suc n) × IsStuckSource degree segments source)
         by_next (inl (v, least)) =
             let long = length_push columns v in
             let before = h.one_each in

@@ -5,9 +5,10 @@ use Rattle.std.specs.List.{AllByRecursion, EachIndex}
 use Rattle.std.proofs.lemmas.Bool.{cases_lt}
 use Rattle.std.proofs.lemmas.List.{take_all, take_at, take-append-le, take_more, take_more_same, length-take-le, get_or_append_left, get_or_push, length_push}
 use Rattle.std.proofs.Math.Nat.{pow-le-pow_right}
-use Rattle.bb_gf2.specs.Span.{IsInSpan, IsIndependent, IsLeast}
+use Rattle.bb_gf2.specs.Span.{IsInSpan, IsIndependent}
+use Rattle.bb_base.specs.Firsts.{IsLeast}
 use Rattle.bb_code.specs.Segments.{IsSegment, lists, listing}
-use Rattle.bb_code.specs.Columns.{columns_of, given, forbidding, IsFree, AreColumns, AreAllColumns, IsStuck}
+use Rattle.bb_code.specs.Columns.{columns_of, given_columns, forbidding, IsFree, AreColumns, AreAllColumns, IsStuckSource}
 use Rattle.bb_code.proofs.Spans.{AreApart, apart_between, independent_from_apart}
 use Rattle.bb_code.proofs.Given.{given_same, given_between, given_none, given_all}
 
@@ -71,7 +72,7 @@ pub column_alone : (degree : ℕ) (segments : List (List ℕ)) (columns : List �
 column_alone degree segments columns source h lt none =
     let long : length (take source columns) ≡ source = length-take-le source columns (omega (arith, lt)) in
     let c = get_or columns source 0 in
-    let spans : forbidding segments (take source columns) ≡ [] = ap (map (given (take source columns))) (ap (listing segments) long ∙ none) in
+    let spans : forbidding segments (take source columns) ≡ [] = ap (map (given_columns (take source columns))) (ap (listing segments) long ∙ none) in
     let least = subst (λ ys. IsLeast (IsFree degree ys) c) spans (h source lt) in
     let some = least.holds.nonzero in
     let fits = least.holds.fits in
@@ -98,7 +99,7 @@ columns_unique degree segments xs ys hx hy e =
     sym (take_all (length xs) xs (omega arith)) ∙ same_front degree segments xs ys hx hy (length xs) (omega arith) (omega (arith, e)) ∙ take_all (length xs) ys (omega (arith, e))
 
 -- no choice goes past a stuck source, and there is one at most
-pub none_past_stuck : (degree : ℕ) (segments : List (List ℕ)) (columns : List ℕ) (source : ℕ) → AreColumns degree segments columns → IsStuck degree segments source → length columns ≤ source
+pub none_past_stuck : (degree : ℕ) (segments : List (List ℕ)) (columns : List ℕ) (source : ℕ) → AreColumns degree segments columns → IsStuckSource degree segments source → length columns ≤ source
 none_past_stuck degree segments columns source h stuck = ⊎_elim past (λ le. le) (cases_lt source (length columns))
   where
     past : source < length columns → length columns ≤ source
@@ -109,7 +110,7 @@ none_past_stuck degree segments columns source h stuck = ⊎_elim past (λ le. l
         ∙ take_all source stuck.columns (omega (arith, long)) in
         absurd (stuck.none (get_or columns source 0) (subst (λ zs. IsFree degree (forbidding segments zs) (get_or columns source 0)) front (h source lt).holds))
 
-pub stuck_once : (degree : ℕ) (segments : List (List ℕ)) (a b : ℕ) → IsStuck degree segments a → IsStuck degree segments b → a ≡ b
+pub stuck_once : (degree : ℕ) (segments : List (List ℕ)) (a b : ℕ) → IsStuckSource degree segments a → IsStuckSource degree segments b → a ≡ b
 stuck_once degree segments a b ha hb =
     let la = ha.before.one_each in
     let lb = hb.before.one_each in
@@ -141,7 +142,7 @@ IsNext degree segments columns next =
 
 -- where the search finds none its source is stuck, and what it finds is the next column
 pub stuck_here : (degree : ℕ) (segments : List (List ℕ)) (source : ℕ) (columns read : List ℕ) (next : Option ℕ) → AreAllColumns degree segments source columns → read ≡ columns
-    → IsNext degree segments read next → next ≡ None → IsStuck degree segments source
+    → IsNext degree segments read next → next ≡ None → IsStuckSource degree segments source
 stuck_here degree segments source columns read next h same found none =
     record { columns = columns; before = h; none = subst (IsNext degree segments columns) none (subst (λ xs. IsNext degree segments xs next) same found) }
 
@@ -158,11 +159,11 @@ columns_more degree segments source columns read new next v h same found some pu
 
 -- where a segment lists a source, the source's column is outside the span of those that the segment had
 abbrev IsKeptClear : List ℕ → List ℕ → Type 0
-IsKeptClear columns segment = (n : ℕ) → n < length columns → lists n segment ≡ true → IsInSpan (given (take n columns) segment) (get_or columns n 0) → ⊥
+IsKeptClear columns segment = (n : ℕ) → n < length columns → lists n segment ≡ true → IsInSpan (given_columns (take n columns) segment) (get_or columns n 0) → ⊥
 
 -- the choice keeps each segment's sources clear of their spans
 each_kept_clear : (columns : List ℕ) (segments : List (List ℕ))
-    → ((n : ℕ) → n < length columns → AllByRecursion (λ rows. IsInSpan rows (get_or columns n 0) → ⊥) (map (given (take n columns)) (listing segments n)))
+    → ((n : ℕ) → n < length columns → AllByRecursion (λ rows. IsInSpan rows (get_or columns n 0) → ⊥) (map (given_columns (take n columns)) (listing segments n)))
     → AllByRecursion (IsKeptClear columns) segments
 each_kept_clear columns [] h = tt
 each_kept_clear columns (segment ∷ segments) h = (
@@ -171,19 +172,19 @@ each_kept_clear columns (segment ∷ segments) h = (
 )
   where
     first : (n : ℕ) (b : Bool) → b ≡ true
-        → AllByRecursion (λ rows. IsInSpan rows (get_or columns n 0) → ⊥) (map (given (take n columns)) (cond b (segment ∷ listing segments n) (listing segments n)))
-        → IsInSpan (given (take n columns) segment) (get_or columns n 0) → ⊥
+        → AllByRecursion (λ rows. IsInSpan rows (get_or columns n 0) → ⊥) (map (given_columns (take n columns)) (cond b (segment ∷ listing segments n) (listing segments n)))
+        → IsInSpan (given_columns (take n columns) segment) (get_or columns n 0) → ⊥
     first n true e all = all.0
     first n false e all = absurd cc
 
     rest : (n : ℕ) (b : Bool)
-        → AllByRecursion (λ rows. IsInSpan rows (get_or columns n 0) → ⊥) (map (given (take n columns)) (cond b (segment ∷ listing segments n) (listing segments n)))
-        → AllByRecursion (λ rows. IsInSpan rows (get_or columns n 0) → ⊥) (map (given (take n columns)) (listing segments n))
+        → AllByRecursion (λ rows. IsInSpan rows (get_or columns n 0) → ⊥) (map (given_columns (take n columns)) (cond b (segment ∷ listing segments n) (listing segments n)))
+        → AllByRecursion (λ rows. IsInSpan rows (get_or columns n 0) → ⊥) (map (given_columns (take n columns)) (listing segments n))
     rest n true all = all.1
     rest n false all = all
 
 -- the columns that a segment's sources have so far are apart
-apart_so_far : (columns segment : List ℕ) (sources : ℕ) → IsSegment sources segment → IsKeptClear columns segment → (n : ℕ) → n ≤ length columns → AreApart (given (take n columns) segment)
+apart_so_far : (columns segment : List ℕ) (sources : ℕ) → IsSegment sources segment → IsKeptClear columns segment → (n : ℕ) → n ≤ length columns → AreApart (given_columns (take n columns) segment)
 apart_so_far columns segment sources s clear zero le = subst AreApart (sym (given_none segment)) tt
 apart_so_far columns segment sources s clear (suc n) le = go (lists n segment) refl (apart_so_far columns segment sources s clear n (omega (arith, le)))
   where
@@ -199,13 +200,13 @@ apart_so_far columns segment sources s clear (suc n) le = go (lists n segment) r
     grown : take n columns ++ c ∷ [] ≡ take (suc n) columns
     grown = let e : n + 1 ≡ suc n = omega arith in sym (take_more columns n 0 lt) ∙ ap (λ k. take k columns) e
 
-    go : (b : Bool) → lists n segment ≡ b → AreApart (given (take n columns) segment) → AreApart (given (take (suc n) columns) segment)
+    go : (b : Bool) → lists n segment ≡ b → AreApart (given_columns (take n columns) segment) → AreApart (given_columns (take (suc n) columns) segment)
     go false e before =
-        subst AreApart (sym (given_same (take n columns) c segment (ap (λ k. lists k segment) long ∙ e)) ∙ ap (λ ys. given ys segment) grown) before
+        subst AreApart (sym (given_same (take n columns) c segment (ap (λ k. lists k segment) long ∙ e)) ∙ ap (λ ys. given_columns ys segment) grown) before
     go true e before =
         let between = given_between (take n columns) c segment s.distinct (ap (λ k. lists k segment) long ∙ e) in
         let outside = subst (λ ys. IsInSpan ys c → ⊥) between.old_is (clear n lt e) in
-        subst AreApart (sym between.new_is ∙ ap (λ ys. given ys segment) grown)
+        subst AreApart (sym between.new_is ∙ ap (λ ys. given_columns ys segment) grown)
         (apart_between between.front between.back c (subst AreApart between.old_is before) outside)
 
 -- so they are independent in the end
@@ -216,9 +217,9 @@ each_independent degree sources all [] columns h each clear = tt
 each_independent degree sources all (segment ∷ segments) columns h each clear =
     (independent, each_independent degree sources all segments columns h each.1 clear.1)
   where
-    whole : given (take (length columns) columns) segment ≡ columns_of columns segment
+    whole : given_columns (take (length columns) columns) segment ≡ columns_of columns segment
     whole =
-        ap (λ ys. given ys segment) (take_all (length columns) columns (omega arith))
+        ap (λ ys. given_columns ys segment) (take_all (length columns) columns (omega arith))
         ∙ given_all columns segment (subst (λ k. AllByRecursion (λ source. source < k) segment) (sym h.one_each) each.0.below)
 
     independent : IsIndependent (columns_of columns segment)
@@ -231,7 +232,7 @@ pub segments_independent : (degree sources : ℕ) (segments : List (List ℕ)) (
 segments_independent degree sources segments columns each h =
     each_independent degree sources segments segments columns h each (each_kept_clear columns segments clear)
   where
-    clear : (n : ℕ) → n < length columns → AllByRecursion (λ rows. IsInSpan rows (get_or columns n 0) → ⊥) (map (given (take n columns)) (listing segments n))
+    clear : (n : ℕ) → n < length columns → AllByRecursion (λ rows. IsInSpan rows (get_or columns n 0) → ⊥) (map (given_columns (take n columns)) (listing segments n))
     clear n lt =
         let long : length (take n columns) ≡ n = length-take-le n columns (omega (arith, lt)) in
-        subst (λ k. AllByRecursion (λ rows. IsInSpan rows (get_or columns n 0) → ⊥) (map (given (take n columns)) (listing segments k))) long (h.chosen n lt).holds.outside
+        subst (λ k. AllByRecursion (λ rows. IsInSpan rows (get_or columns n 0) → ⊥) (map (given_columns (take n columns)) (listing segments k))) long (h.chosen n lt).holds.outside

@@ -1,9 +1,13 @@
 -- segments turned round: one source more of a segment, and one segment more
-use Rattle.std.proofs.Common.{◌≡◌, ℕ, ◌+◌, ◌<◌, zero, suc, List, [], ◌∷◌, ◌++◌, length, map, take, get_or, set, replicate, Bool, true, false, cond, eqb, ◌||◌, if◌then◌else◌, refl, sym, ap, ◌∙◌, subst, arith, ◌⊎◌, inl, inr, append-nil, get_or-set_same, get_or-set_other}
+use Rattle.std.proofs.Common.{◌≡◌, ℕ, ◌+◌, ◌<◌, zero, suc, List, [], ◌∷◌, ◌++◌, length, map, take, get_or, set, Bool, true, false, cond, eqb, ◌||◌, if◌then◌else◌, refl, sym, ap, ◌∙◌, subst, arith, ◌⊎◌, inl, inr, append-nil, get_or-set_same, get_or-set_other}
 use Rattle.std.specs.List.{AllByRecursion, IsDistinct}
 use Rattle.std.proofs.lemmas.Bool.{cases_eq, eqb-false, eq-eqb, ne_eqb}
-use Rattle.std.proofs.lemmas.List.{take_more, length-map, map-set, get_or-map, get_or-replicate}
+use Rattle.std.proofs.Math.Bool.{or-false}
+use Rattle.std.proofs.lemmas.List.Elements.{filter-append}
+use Rattle.std.proofs.lemmas.List.Folds.{list_any-append}
+use Rattle.std.proofs.lemmas.List.{take_more, length-map, map-set, get_or-map}
 use Rattle.std.proofs.lemmas.Map.Keys.{IsDistinct-head, IsDistinct-tail}
+use Rattle.bb_base.proofs.Lists.{all_join, map_join}
 use Rattle.bb_code.specs.Segments.{IsSegment, lists, listing}
 use Rattle.bb_code.specs.Listings.{at_places, AreListings}
 use Rattle.bb_code.proofs.OneChoice.{all_at}
@@ -14,16 +18,7 @@ if_so b x = if b then x ∷ [] else []
 
 -- whether a segment with one source more lists a source
 lists_push : (s : ℕ) (xs : List ℕ) (x : ℕ) → lists s (xs ++ x ∷ []) ≡ (lists s xs || eqb s x)
-lists_push s [] x = go (eqb s x)
-  where
-    go : (b : Bool) → (b || false) ≡ b
-    go true = refl
-    go false = refl
-lists_push s (y ∷ xs) x = go (eqb s y) (lists_push s xs x)
-  where
-    go : (b : Bool) → lists s (xs ++ x ∷ []) ≡ (lists s xs || eqb s x) → (b || lists s (xs ++ x ∷ [])) ≡ ((b || lists s xs) || eqb s x)
-    go true e = refl
-    go false e = e
+lists_push s xs x = list_any-append (eqb s) xs (x ∷ []) ∙ ap (λ b. lists s xs || b) (or-false (eqb s x))
 
 -- what stands later in a list of distinct sources is not among those before
 new_source : (segment : List ℕ) (i : ℕ) → IsDistinct eqb segment → i < length segment → lists (get_or segment i 0) (take i segment) ≡ false
@@ -32,21 +27,12 @@ new_source (x ∷ segment) zero distinct lt = refl
 new_source (x ∷ segment) (suc i) distinct lt =
     ap (λ b. b || lists (get_or segment i 0) (take i segment)) apart ∙ new_source segment i (IsDistinct-tail eqb x segment distinct) (omega (arith, lt))
   where
-    apart_at : (ys : List ℕ) (j : ℕ) → AllByRecursion (λ y. eqb x y ≡ false) ys → j < length ys → eqb x (get_or ys j 0) ≡ false
-    apart_at [] j h l = absurd (omega (arith, l))
-    apart_at (y ∷ ys) zero h l = h.0
-    apart_at (y ∷ ys) (suc j) h l = apart_at ys j h.1 (omega (arith, l))
-
     apart : eqb (get_or segment i 0) x ≡ false
-    apart = ne_eqb (get_or segment i 0) x (λ e. eqb-false x (get_or segment i 0) (apart_at segment i (IsDistinct-head eqb x segment distinct) (omega (arith, lt))) (sym e))
+    apart = ne_eqb (get_or segment i 0) x (λ e. eqb-false x (get_or segment i 0) (all_at (λ y. eqb x y ≡ false) 0 segment i (IsDistinct-head eqb x segment distinct) (omega (arith, lt))) (sym e))
 
 -- new has the place behind the list of each source that the segment lists, else the old lists
 abbrev pub HasPlaces : (old new : List (List ℕ)) (segment : List ℕ) (place : ℕ) → Type 0
 HasPlaces old new segment place = (source : ℕ) → source < length old → get_or new source [] ≡ get_or old source [] ++ if_so (lists source segment) place
-
--- no source adds no place
-pub no_places : (old : List (List ℕ)) (place : ℕ) → HasPlaces old old [] place
-no_places old place source lt = sym (append-nil (get_or old source []))
 
 -- one source more of a segment
 pub places_step : (old mid new : List (List ℕ)) (segment : List ℕ) (i place : ℕ) → IsSegment (length old) segment → i < length segment → length mid ≡ length old
@@ -95,39 +81,13 @@ pub record AreListingsOf (n : ℕ) (segments : List (List ℕ)) (sources : ℕ) 
   pub within : (source : ℕ) → source < sources → AllByRecursion (λ place. place < length segments) (get_or listings source [])
   pub listed : (source : ℕ) → source < sources → at_places segments (get_or listings source []) ≡ listing (take n segments) source
 
--- the listings of no segments
-pub no_listings : (segments : List (List ℕ)) (sources : ℕ) (listings : List (List ℕ)) → listings ≡ replicate sources [] → length listings ≡ sources → AreListingsOf 0 segments sources listings
-no_listings segments sources listings e long = record {
-  one_each = long;
-  within = λ s lt. subst (AllByRecursion (λ place. place < length segments)) (sym (empty s lt)) tt;
-  listed = λ s lt. ap (at_places segments) (empty s lt);
-}
-  where
-    empty : (s : ℕ) → s < sources → get_or listings s [] ≡ []
-    empty s lt = ap (λ ls. get_or ls s []) e ∙ get_or-replicate sources s [] [] lt
-
--- joined lists
-all_join : (P : ℕ → Type 0) (xs ys : List ℕ) → AllByRecursion P xs → AllByRecursion P ys → AllByRecursion P (xs ++ ys)
-all_join P [] ys h k = k
-all_join P (x ∷ xs) ys h k = (h.0, all_join P xs ys h.1 k)
-
-at_join : (segments : List (List ℕ)) (xs ys : List ℕ) → at_places segments (xs ++ ys) ≡ at_places segments xs ++ at_places segments ys
-at_join segments [] ys = refl
-at_join segments (x ∷ xs) ys = ap (λ zs. get_or segments x [] ∷ zs) (at_join segments xs ys)
-
 -- the segments that list a source, with one segment more
 listing_push : (segments : List (List ℕ)) (segment : List ℕ) (source : ℕ) → listing (segments ++ segment ∷ []) source ≡ listing segments source ++ if_so (lists source segment) segment
-listing_push [] segment source = go (lists source segment)
+listing_push segments segment source = filter-append (lists source) segments (segment ∷ []) ∙ ap (λ last. listing segments source ++ last) (go (lists source segment))
   where
     go : (b : Bool) → cond b (segment ∷ []) [] ≡ if_so b segment
     go true = refl
     go false = refl
-listing_push (first ∷ segments) segment source = go (lists source first) (listing_push segments segment source)
-  where
-    go : (b : Bool) → listing (segments ++ segment ∷ []) source ≡ listing segments source ++ if_so (lists source segment) segment
-        → cond b (first ∷ listing (segments ++ segment ∷ []) source) (listing (segments ++ segment ∷ []) source) ≡ cond b (first ∷ listing segments source) (listing segments source) ++ if_so (lists source segment) segment
-    go true e = ap (λ ys. first ∷ ys) e
-    go false e = e
 
 -- the listings with one segment more
 pub listings_step : (n : ℕ) (segments : List (List ℕ)) (sources : ℕ) (old new : List (List ℕ)) → n < length segments → AreListingsOf n segments sources old
@@ -137,7 +97,7 @@ listings_step n segments sources old new lt h long put = record {
   within = λ s l. subst (AllByRecursion (λ place. place < length segments)) (sym (put s (inside s l)))
       (all_join (λ place. place < length segments) (get_or old s []) (if_so (lists s segment) n) (h.within s l) (one (lists s segment)));
   listed = λ s l.
-      ap (at_places segments) (put s (inside s l)) ∙ at_join segments (get_or old s []) (if_so (lists s segment) n)
+      ap (at_places segments) (put s (inside s l)) ∙ map_join (λ place. get_or segments place []) (get_or old s []) (if_so (lists s segment) n)
       ∙ (λ j. h.listed s l j ++ place_of (lists s segment) j) ∙ sym (listing_push (take n segments) segment s) ∙ ap (λ ss. listing ss s) (sym (take_more segments n [] lt));
 }
   where

@@ -2,10 +2,11 @@
 
 ghost use Rattle.std.specs.Prelude.{◌≡◌, ◌≢◌, ◌<◌, ◌≤◌, ◌*◌, ◌-◌, ◌^◌, ℕ, length, map, IfOk, Ok, Err, MatchOption};
 ghost use Rattle.std.specs.List.{AllByRecursion};
-ghost use Rattle.bb_gf2.specs.Span.{IsIndependent, IsLeast};
+ghost use Rattle.bb_gf2.specs.Span.{IsIndependent};
+ghost use Rattle.bb_base.specs.Firsts.{IsLeast};
 ghost use Rattle.bb_code.specs.Segments.{IsSegment, AreWithin, listing, sources_of};
 ghost use Rattle.bb_code.specs.Listings.{at_places};
-ghost use Rattle.bb_code.specs.Columns.{AreAllColumns, IsStuck, columns_of, given, forbidding, IsFree};
+ghost use Rattle.bb_code.specs.Columns.{AreAllColumns, IsStuckSource, columns_of, given_columns, forbidding, IsFree};
 
 use crate::fault::CodeFault;
 use crate::listings::listings;
@@ -28,8 +29,8 @@ pub fn columns(
     ensures independent { IfOk result (λ columns. AllByRecursion (λ segment. IsIndependent (columns_of columns.items segment))
         (sources_of segments.now)) }
     ensures stuck { (source : ℕ) → result ≡ Err (CodeFault.Stuck source)
-        → (source < sources) × IsStuck degree (sources_of segments.now) source }
-    ensures only { (source : ℕ) → source < sources → IsStuck degree (sources_of segments.now) source
+        → (source < sources) × IsStuckSource degree (sources_of segments.now) source }
+    ensures only { (source : ℕ) → source < sources → IsStuckSource degree (sources_of segments.now) source
         → result ≢ Err CodeFault.NoMemory → result ≡ Err (CodeFault.Stuck source) }
     ensures bound { (source listed size : ℕ) → result ≡ Err (CodeFault.Stuck source)
         → AreWithin listed size (sources_of segments.now) → 2 ^ degree ≤ listed * 2 ^ (size - 1) }
@@ -81,19 +82,19 @@ fn spans_of(
 ) -> Result<Vec<ArrayVec<u32, 16>>, AllocError>
     requires { AllByRecursion (λ place. place < length segments.now) places.now }
     ensures { IfOk result (λ spans. map (λ rows. rows.items) spans.items
-        ≡ map (given columns.now) (at_places (sources_of segments.now) places.now)) }
+        ≡ map (given_columns columns.now) (at_places (sources_of segments.now) places.now)) }
 {
     let mut spans = Vec::new(alloc);
     for place in places {
-        spans.push(given(columns, segments[*place].as_slice()))?;
+        spans.push(given_columns(columns, segments[*place].as_slice()))?;
     }
     Ok(spans)
 }
 
 // The columns that a segment's sources have so far.
-fn given(columns: &[u32], segment: &[u32]) -> ArrayVec<u32, 16>
+fn given_columns(columns: &[u32], segment: &[u32]) -> ArrayVec<u32, 16>
     requires { length segment.now ≤ 16 }
-    ensures { result.items ≡ given columns.now segment.now }
+    ensures { result.items ≡ given_columns columns.now segment.now }
 {
     let mut rows = ArrayVec::new();
     for source in segment {

@@ -2,7 +2,7 @@
 
 ghost use Rattle.std.specs.Prelude.{◌≡◌, ◌<◌, ◌≤◌, ◌^◌, ◌*◌, ◌-◌, ◌⊎◌, ℕ, List, length, slice_index, EachIndex, []};
 ghost use Rattle.bb_code.specs.Segments.{listing, AreWithin, ListSources};
-ghost use Rattle.bb_code.specs.Columns.{AreColumns, AreAllColumns, IsStuck};
+ghost use Rattle.bb_code.specs.Columns.{AreColumns, AreAllColumns, IsStuckSource};
 
 /// There is one choice of columns at most, and it is the same at every degree at which it fits. A
 /// source in no segment takes 1.
@@ -10,7 +10,7 @@ pub fn columns_are_unique()
     ensures unique { (degree : ℕ) (segments : List (List ℕ)) (columns others : List ℕ) → AreColumns degree segments columns
         → AreColumns degree segments others → length columns ≡ length others → columns ≡ others }
     ensures stuck { (degree : ℕ) (segments : List (List ℕ)) (columns : List ℕ) (source : ℕ) → AreColumns degree segments columns
-        → IsStuck degree segments source → length columns ≤ source }
+        → IsStuckSource degree segments source → length columns ≤ source }
     ensures higher { (degree more : ℕ) (segments : List (List ℕ)) (columns : List ℕ) → degree ≤ more
         → AreColumns degree segments columns → AreColumns more segments columns }
     ensures lower { (degree more : ℕ) (segments : List (List ℕ)) (columns : List ℕ) → degree ≤ more
@@ -27,7 +27,7 @@ pub fn columns_are_unique()
 pub fn columns_exist()
     ensures or_stuck { (degree sources : ℕ) (segments : List (List ℕ))
         → ((columns : List ℕ) × AreAllColumns degree segments sources columns)
-        ⊎ ((source : ℕ) × (source < sources) × IsStuck degree segments source) }
+        ⊎ ((source : ℕ) × (source < sources) × IsStuckSource degree segments source) }
     ensures within { (degree sources listed size : ℕ) (segments : List (List ℕ)) → 1 ≤ degree → AreWithin listed size segments
         → (ListSources segments → listed * 2 ^ (size - 1) < 2 ^ degree)
         → (columns : List ℕ) × AreAllColumns degree segments sources columns }

@@ -21,8 +21,6 @@ mod laws;
 mod listings;
 mod marks;
 mod search;
-#[cfg(test)]
-mod tests;
 
 pub use choice::columns;
 pub use fault::{CodeFault, DegreeFault, Need};

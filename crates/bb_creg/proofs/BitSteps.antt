@@ -3,18 +3,19 @@ use Rattle.std.proofs.Common.{◌≡◌, ℕ, ◌+◌, ◌*◌, ◌-◌, ◌^◌
 use Rattle.std.proofs.lemmas.Bool.Decides.{nat_tests}
 use Rattle.std.proofs.Math.Nat.{pow-suc, div-add-mod, mod-lt}
 use Rattle.std.proofs.lemmas.Nat.{mod-mul-add, pow_pos}
-use Rattle.bb_gf2.specs.Bits.{xor, bits, value, chosen, parity_of_bits}
-use Rattle.bb_gf2.specs.Parity.{code_bit}
+use Rattle.bb_base.specs.Booleans.{xor, some_true}
+use Rattle.bb_gf2.specs.Bits.{bits, from_bits}
+use Rattle.bb_gf2.specs.Parity.{code_bit, code_of_bits}
 use Rattle.bb_gf2.proofs.Codes.{low_bit, xor_half, xor_low}
-use Rattle.bb_gf2.proofs.BitLaws.{code_of_bits, bits-value}
-use Rattle.bb_gf2.proofs.Pairing.{value_below}
+use Rattle.bb_gf2.proofs.BitLaws.{code_of_bits-bits, bits-from_bits}
+use Rattle.bb_gf2.proofs.Pairing.{from_bits_below}
 use Rattle.bb_creg.specs.Register.{IsFullPeriod, feedback, next_state, state_after}
-use Rattle.bb_creg.specs.OnBits.{shifted, front, some_true, zeros, feedback_bit, next_bits, bits_after}
+use Rattle.bb_creg.specs.OnBits.{shifted, front, zeros, feedback_bit, next_bits, bits_after}
 use Rattle.bb_creg.specs.Signature.{xor_each, signature_step, next_signature}
 use Rattle.bb_creg.proofs.Orbit.{state_below}
 
 -- the bits of a number without its highest, behind a new lowest: the number doubled
-shifted_bits : (k x : ℕ) → shifted (low_bit x) (bits k (x / 2)) ≡ bits k x
+pub shifted_bits : (k x : ℕ) → shifted (low_bit x) (bits k (x / 2)) ≡ bits k x
 shifted_bits zero x = refl
 shifted_bits (suc k) x = ap (λ bs. low_bit x ∷ bs) (shifted_bits k (x / 2))
 
@@ -43,7 +44,7 @@ half_of : (b r : ℕ) → b < 2 → (b + 2 * r) / 2 ≡ r
 half_of b r h = omega arith
 
 -- no bit below place k is 1
-none_below : (k x : ℕ) → not (some_true (bits k x)) ≡ (x % 2 ^ k == 0)
+pub none_below : (k x : ℕ) → not (some_true (bits k x)) ≡ (x % 2 ^ k == 0)
 none_below zero x = let e : x % 2 ^ 0 ≡ 0 = omega arith in sym (ap (λ n. n == 0) e)
 none_below (suc k) x = both (x % 2) (x / 2 % 2 ^ k) (some_true (bits k (x / 2))) (none_below k (x / 2)) (let e : x % 2 < 2 = omega arith in e) ∙ ap (λ n. n == 0) (sym (mod_double k x))
   where
@@ -76,7 +77,7 @@ bits_of_double (suc j) x f =
 
 feeds : (j mask x : ℕ) → x < 2 ^ suc j → feedback (suc j) mask x ≡ feedback_bit mask (bits (suc j) x)
 feeds j mask x lt =
-    let coded : code_bit mask x ≡ parity_of_bits (chosen mask (bits (suc j) x)) = sym (code_of_bits (suc j) mask x lt) in
+    let coded : code_bit mask x ≡ code_of_bits mask (bits (suc j) x) = sym (code_of_bits-bits (suc j) mask x lt) in
     let turned : (x % 2 ^ (suc j - 1) == 0) ≡ not (some_true (front (bits (suc j) x))) =
     ap (λ n. x % 2 ^ n == 0) (let e : suc j - 1 ≡ j = omega arith in e) ∙ sym (none_below j x) ∙ ap (λ bs. not (some_true bs)) (sym (shifted_bits j x)) in
     λ i. xor (coded i) (turned i)
@@ -96,8 +97,8 @@ bits-state k mask (suc t) some = bits-next k mask (state_after k mask t) some (s
 -- a full walk meets each list of bits
 pub full_on_bits : (k mask : ℕ) → 1 ≤ k → IsFullPeriod k mask → (xs : List Bool) → length xs ≡ k → (t : ℕ) × (t < 2 ^ k) × (bits_after k mask t ≡ xs)
 full_on_bits k mask some full xs long =
-    let t = full (value xs) (subst (λ n. value xs < 2 ^ n) long (value_below xs)) in
-    (t.0, t.1, sym (bits-state k mask t.0 some) ∙ ap (bits k) t.2 ∙ ap (λ n. bits n (value xs)) (sym long) ∙ bits-value xs)
+    let t = full (from_bits xs) (subst (λ n. from_bits xs < 2 ^ n) long (from_bits_below xs)) in
+    (t.0, t.1, sym (bits-state k mask t.0 some) ∙ ap (bits k) t.2 ∙ ap (λ n. bits n (from_bits xs)) (sym long) ∙ bits-from_bits xs)
 
 bits-xor : (k x y : ℕ) → bits k (bit_xor x y) ≡ xor_each (bits k x) (bits k y)
 bits-xor zero x y = refl
@@ -106,4 +107,4 @@ bits-xor (suc k) x y = (λ i. xor_low x y i ∷ (ap (bits k) (xor_half x y) ∙ 
 pub bits-signature : (k mask cells lines : ℕ) → cells < 2 ^ k → lines < 2 ^ k → bits k (next_signature k mask cells lines) ≡ signature_step mask (bits k cells) (bits k lines)
 bits-signature k mask cells lines lc ll =
     bits-xor k lines ((2 * cells + (if code_bit mask cells then 1 else 0)) % 2 ^ k)
-    ∙ ap (xor_each (bits k lines)) (bits_of_double k cells (code_bit mask cells) ∙ ap (λ f. shifted f (bits k cells)) (sym (code_of_bits k mask cells lc)))
+    ∙ ap (xor_each (bits k lines)) (bits_of_double k cells (code_bit mask cells) ∙ ap (λ f. shifted f (bits k cells)) (sym (code_of_bits-bits k mask cells lc)))

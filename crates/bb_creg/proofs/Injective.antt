@@ -4,10 +4,10 @@ use Rattle.std.specs.Prelude.{count_ones}
 use Rattle.std.proofs.lemmas.Bool.Decides.{nat_tests}
 use Rattle.std.proofs.lemmas.Nat.{and_block, and_le_l, ones_cat, mod_low, pow_pos, shr_split}
 use Rattle.std.proofs.Math.Nat.{pow-suc}
-use Rattle.bb_gf2.specs.Bits.{xor}
+use Rattle.bb_base.specs.Booleans.{xor}
 use Rattle.bb_gf2.specs.Parity.{parity, code_bit}
 use Rattle.bb_gf2.proofs.Xor.{xor_self_bits, xor_assoc_bits, xor_comm_bits}
-use Rattle.bb_gf2.proofs.Codes.{parity_step, parity_zero, code_zero_state}
+use Rattle.bb_gf2.proofs.Codes.{odd_sum, parity_step, parity_zero, code_zero_state}
 use Rattle.bb_creg.specs.Register.{IsMask, feedback, next_state}
 
 -- a bit as a number
@@ -23,17 +23,6 @@ same_digits true true e = refl
 same_digits true false e = absurd (omega (arith, e))
 same_digits false true e = absurd (omega (arith, e))
 same_digits false false e = refl
-
-odd_sum : (a b : ℕ) → ((a + b) % 2 == 1) ≡ xor (a % 2 == 1) (b % 2 == 1)
-odd_sum a b = go (a % 2) (b % 2) (omega arith) (omega arith) (omega arith)
-  where
-    go : (r s : ℕ) → r < 2 → s < 2 → (a + b) % 2 ≡ (r + s) % 2 → ((a + b) % 2 == 1) ≡ xor (r == 1) (s == 1)
-    go zero zero g h e = ap (λ n. n == 1) e
-    go zero (suc zero) g h e = ap (λ n. n == 1) e
-    go (suc zero) zero g h e = ap (λ n. n == 1) e
-    go (suc zero) (suc zero) g h e = ap (λ n. n == 1) e
-    go (suc (suc r)) s g h e = absurd (omega (arith, g))
-    go r (suc (suc s)) g h e = absurd (omega (arith, h))
 
 -- the parity of a number by its parts
 parity_block : (k a r : ℕ) → r < 2 ^ k → parity (a * 2 ^ k + r) ≡ xor (parity a) (parity r)

@@ -1,10 +1,13 @@
 -- the signature is linear
 use Rattle.std.proofs.Common.{◌≡◌, ℕ, ◌/◌, ◌%◌, ◌==◌, zero, suc, List, [], ◌∷◌, length, fold, Bool, true, false, if◌then◌else◌, refl, sym, ap, ◌∙◌, arith}
 use Rattle.std.specs.List.{AllByRecursion}
-use Rattle.bb_gf2.specs.Bits.{xor, chosen, parity_of_bits}
+use Rattle.bb_base.specs.Booleans.{xor, parity_of_bits}
+use Rattle.bb_gf2.specs.Bits.{picked}
+use Rattle.bb_gf2.specs.Parity.{code_of_bits}
 use Rattle.bb_gf2.proofs.Xor.{swap_xor}
 use Rattle.bb_creg.specs.OnBits.{shifted, zeros}
 use Rattle.bb_creg.specs.Signature.{xor_each, xor_cycles, signature_step, signature}
+use Rattle.bb_creg.proofs.Growth.{length_zeros, length_step}
 
 swap_each : (a b c d : List Bool) → xor_each (xor_each a b) (xor_each c d) ≡ xor_each (xor_each a c) (xor_each b d)
 swap_each [] b c d = refl
@@ -19,36 +22,23 @@ shifted_each f g [] b = refl
 shifted_each f g (x ∷ a) [] = refl
 shifted_each f g (x ∷ a) (y ∷ b) = ap (λ bs. xor f g ∷ bs) (shifted_each x y a b)
 
-parity_each : (mask : ℕ) (a b : List Bool) → length a ≡ length b → parity_of_bits (chosen mask (xor_each a b)) ≡ xor (parity_of_bits (chosen mask a)) (parity_of_bits (chosen mask b))
+parity_each : (mask : ℕ) (a b : List Bool) → length a ≡ length b → code_of_bits mask (xor_each a b) ≡ xor (code_of_bits mask a) (code_of_bits mask b)
 parity_each mask [] [] e = refl
 parity_each mask [] (y ∷ b) e = absurd (omega (arith, e))
 parity_each mask (x ∷ a) [] e = absurd (omega (arith, e))
 parity_each mask (x ∷ a) (y ∷ b) e = go (mask % 2 == 1) (parity_each (mask / 2) a b (omega (arith, e)))
   where
-    go : (t : Bool) → parity_of_bits (chosen (mask / 2) (xor_each a b)) ≡ xor (parity_of_bits (chosen (mask / 2) a)) (parity_of_bits (chosen (mask / 2) b))
-        → parity_of_bits (if t then xor x y ∷ chosen (mask / 2) (xor_each a b) else chosen (mask / 2) (xor_each a b))
-        ≡ xor (parity_of_bits (if t then x ∷ chosen (mask / 2) a else chosen (mask / 2) a)) (parity_of_bits (if t then y ∷ chosen (mask / 2) b else chosen (mask / 2) b))
-    go true h = ap (xor (xor x y)) h ∙ swap_xor x y (parity_of_bits (chosen (mask / 2) a)) (parity_of_bits (chosen (mask / 2) b))
+    go : (t : Bool) → code_of_bits (mask / 2) (xor_each a b) ≡ xor (code_of_bits (mask / 2) a) (code_of_bits (mask / 2) b)
+        → parity_of_bits (if t then xor x y ∷ picked (mask / 2) (xor_each a b) else picked (mask / 2) (xor_each a b))
+        ≡ xor (parity_of_bits (if t then x ∷ picked (mask / 2) a else picked (mask / 2) a)) (parity_of_bits (if t then y ∷ picked (mask / 2) b else picked (mask / 2) b))
+    go true h = ap (xor (xor x y)) h ∙ swap_xor x y (code_of_bits (mask / 2) a) (code_of_bits (mask / 2) b)
     go false h = h
 
 step_linear : (mask : ℕ) (p q a b : List Bool) → length p ≡ length q → signature_step mask (xor_each p q) (xor_each a b) ≡ xor_each (signature_step mask p a) (signature_step mask q b)
 step_linear mask p q a b e =
     ap (λ f. xor_each (xor_each a b) (shifted f (xor_each p q))) (parity_each mask p q e)
-    ∙ ap (xor_each (xor_each a b)) (shifted_each (parity_of_bits (chosen mask p)) (parity_of_bits (chosen mask q)) p q)
-    ∙ swap_each a b (shifted (parity_of_bits (chosen mask p)) p) (shifted (parity_of_bits (chosen mask q)) q)
-
-length_each : (a b : List Bool) → length a ≡ length b → length (xor_each a b) ≡ length a
-length_each [] b e = refl
-length_each (x ∷ a) [] e = absurd (omega (arith, e))
-length_each (x ∷ a) (y ∷ b) e = ap suc (length_each a b (omega (arith, e)))
-
-length_shifted : (x : Bool) (bs : List Bool) → length (shifted x bs) ≡ length bs
-length_shifted x [] = refl
-length_shifted x (b ∷ bs) = ap suc (length_shifted b bs)
-
-length_step : (k mask : ℕ) (cells lines : List Bool) → length cells ≡ k → length lines ≡ k → length (signature_step mask cells lines) ≡ k
-length_step k mask cells lines lc ll =
-    length_each lines (shifted (parity_of_bits (chosen mask cells)) cells) (ll ∙ sym (length_shifted (parity_of_bits (chosen mask cells)) cells ∙ lc)) ∙ ll
+    ∙ ap (xor_each (xor_each a b)) (shifted_each (code_of_bits mask p) (code_of_bits mask q) p q)
+    ∙ swap_each a b (shifted (code_of_bits mask p) p) (shifted (code_of_bits mask q) q)
 
 fold_linear : (k mask : ℕ) (xs ys : List (List Bool)) (p q : List Bool) → length xs ≡ length ys → AllByRecursion (λ lines. length lines ≡ k) xs → AllByRecursion (λ lines. length lines ≡ k) ys
     → length p ≡ k → length q ≡ k → fold (signature_step mask) (xor_each p q) (xor_cycles xs ys) ≡ xor_each (fold (signature_step mask) p xs) (fold (signature_step mask) q ys)
@@ -58,10 +48,6 @@ fold_linear k mask (x ∷ xs) [] p q e wx wy lp lq = absurd (omega (arith, e))
 fold_linear k mask (x ∷ xs) (y ∷ ys) p q e wx wy lp lq =
     ap (λ r. fold (signature_step mask) r (xor_cycles xs ys)) (step_linear mask p q x y (lp ∙ sym lq))
     ∙ fold_linear k mask xs ys (signature_step mask p x) (signature_step mask q y) (omega (arith, e)) wx.1 wy.1 (length_step k mask p x lp wx.0) (length_step k mask q y lq wy.0)
-
-length_zeros : (k : ℕ) → length (zeros k) ≡ k
-length_zeros zero = refl
-length_zeros (suc k) = ap suc (length_zeros k)
 
 zeros_each : (k : ℕ) → xor_each (zeros k) (zeros k) ≡ zeros k
 zeros_each zero = refl

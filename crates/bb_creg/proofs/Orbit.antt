@@ -1,12 +1,12 @@
 -- the walk from 0: away from 0 for all steps exactly where it meets every state
 use Rattle.std.proofs.Common.{◌≡◌, ℕ, ◌+◌, ◌-◌, ◌*◌, ◌^◌, ◌<◌, ◌≤◌, zero, suc, List, [], ◌∷◌, length, get_or, Bool, true, false, ◌||◌, eqb, refl, sym, ap, ◌∙◌, subst, arith, ◌⊎◌, inl, inr}
 use Rattle.std.specs.List.{list_any, IsDistinct, AllByRecursion}
-use Rattle.std.proofs.lemmas.Bool.{cases_lt, cases_order, eq-eqb, ne_eqb, eqb-true}
+use Rattle.std.proofs.lemmas.Bool.{cases_lt, cases_order, eq-eqb, ne_eqb, eqb-true, or_right}
 use Rattle.std.proofs.lemmas.Map.Keys.{IsDistinct-cons}
 use Rattle.std.proofs.lemmas.Map.Steps.{length-le_from_distinct_below, le-length_from_below}
 use Rattle.std.proofs.lemmas.Nat.{pow_pos}
 use Rattle.std.proofs.Math.Nat.{pow-suc}
-use Rattle.bb_gf2.specs.Bits.{value}
+use Rattle.bb_gf2.specs.Bits.{from_bits}
 use Rattle.bb_gf2.specs.Parity.{code_word}
 use Rattle.bb_gf2.specs.Span.{combined}
 use Rattle.bb_gf2.specs.Dual.{AreDuals}
@@ -54,12 +54,8 @@ unfolding states
 among k m zero t lt = absurd (omega (arith, lt))
 among k m (suc n) t lt = go (cases_lt t n) (λ l. among k m n t l)
   where
-    or_true : (a : Bool) → (a || true) ≡ true
-    or_true true = refl
-    or_true false = refl
-
     go : (t < n) ⊎ (n ≤ t) → (t < n → list_any (eqb (state_after k m t)) (states k m n) ≡ true) → (eqb (state_after k m t) (state_after k m n) || list_any (eqb (state_after k m t)) (states k m n)) ≡ true
-    go (inl l) more = ap (λ b. eqb (state_after k m t) (state_after k m n) || b) (more l) ∙ or_true (eqb (state_after k m t) (state_after k m n))
+    go (inl l) more = or_right (eqb (state_after k m t) (state_after k m n)) (list_any (eqb (state_after k m t)) (states k m n)) (more l)
     go (inr le) more =
         let same : t ≡ n = omega (arith, le, lt) in
         ap (λ b. b || list_any (eqb (state_after k m t)) (states k m n)) (eq-eqb (state_after k m t) (state_after k m n) (ap (state_after k m) same))
@@ -106,7 +102,7 @@ full_from_away j m h away x lt = go (list_any (eqb x) (states (suc j) m (2 ^ suc
         below q false s g = let t = time_of (suc j) m (2 ^ suc j) q g in subst (λ n. n < 2 ^ suc j) t.2 (state_below (suc j) m t.0)
 
 -- once it is back at 0, the walk goes round
-round : (k m back : ℕ) → state_after k m back ≡ 0 → (t : ℕ) → state_after k m (back + t) ≡ state_after k m t
+pub round : (k m back : ℕ) → state_after k m back ≡ 0 → (t : ℕ) → state_after k m (back + t) ≡ state_after k m t
 round k m back h zero = let e : back + 0 ≡ back = omega arith in ap (state_after k m) e ∙ h
 round k m back h (suc t) = let e : back + suc t ≡ suc (back + t) = omega arith in ap (state_after k m) e ∙ ap (next_state k m) (round k m back h t)
 
@@ -171,5 +167,5 @@ one_to_one (suc j) m x y some h lx ly e = next_injective j m x y h lx ly e
 pub vector_comes : (k m : ℕ) (columns duals : List ℕ) (wanted : List Bool) → IsFullPeriod k m → AreDuals columns duals → ((place : ℕ) → place < length duals → get_or duals place 0 < 2 ^ k)
     → length wanted ≡ length columns → (t : ℕ) × (t < 2 ^ k) × (code_word columns (state_after k m t) ≡ wanted)
 vector_comes k m columns duals wanted full dual small long =
-    let t = full (combined (value wanted) duals) (combined_below k (value wanted) duals small) in
+    let t = full (combined (from_bits wanted) duals) (combined_below k (from_bits wanted) duals small) in
     (t.0, t.1, ap (code_word columns) t.2 ∙ state_codes columns duals wanted dual long)

@@ -5,7 +5,7 @@ use mir.Val.{bool_byte}
 use Rattle.std.proofs.lemmas.Bool.{cases_lt}
 use Rattle.std.proofs.lemmas.Nat.{one_shl, and_mask}
 use Rattle.std.proofs.Math.Nat.{pow-suc}
-use Rattle.bb_gf2.specs.Bits.{xor}
+use Rattle.bb_base.specs.Booleans.{xor}
 use Rattle.bb_gf2.specs.Parity.{code_bit}
 use Rattle.bb_creg.specs.Register.{next_state, state_after}
 use Rattle.bb_creg.specs.Walk.{IsAway}

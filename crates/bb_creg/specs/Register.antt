@@ -1,7 +1,7 @@
 -- The complete register: a linear feedback shift register (LFSR) whose feedback is turned at two states, so that 0 can
 -- stand among the others (zero insertion, as in de Bruijn registers).
 use Rattle.std.specs.Prelude.{◌≡◌, ℕ, ◌+◌, ◌-◌, ◌*◌, ◌%◌, ◌^◌, ◌<◌, ◌≤◌, ◌==◌, zero, suc, Bool, if◌then◌else◌}
-use Rattle.bb_gf2.specs.Bits.{xor}
+use Rattle.bb_base.specs.Booleans.{xor}
 use Rattle.bb_gf2.specs.Parity.{code_bit}
 
 -- a degree that fits: the register's length

@@ -1,7 +1,7 @@
 -- The signature: what a signature register (a MISR) holds after it took in its lines, cycle after cycle.
 use Rattle.std.specs.Prelude.{ℕ, ◌+◌, ◌*◌, ◌%◌, ◌^◌, Bool, List, [], ◌∷◌, fold, bit_xor, if◌then◌else◌}
-use Rattle.bb_gf2.specs.Bits.{xor, parity_of_bits, chosen}
-use Rattle.bb_gf2.specs.Parity.{code_bit}
+use Rattle.bb_base.specs.Booleans.{xor}
+use Rattle.bb_gf2.specs.Parity.{code_bit, code_of_bits}
 use Rattle.bb_creg.specs.OnBits.{shifted, zeros}
 
 -- the exclusive or bit by bit
@@ -12,7 +12,7 @@ xor_each (a ∷ rest) (b ∷ bs) = xor a b ∷ xor_each rest bs
 
 -- one cycle: each cell takes its line and the cell before it, and the first one the parity of the tapped cells
 abbrev pub signature_step : ℕ → List Bool → List Bool → List Bool
-signature_step mask cells lines = xor_each lines (shifted (parity_of_bits (chosen mask cells)) cells)
+signature_step mask cells lines = xor_each lines (shifted (code_of_bits mask cells) cells)
 
 -- the signature of a register from all 0, given its lines in each cycle
 abbrev pub signature : ℕ → ℕ → List (List Bool) → List Bool

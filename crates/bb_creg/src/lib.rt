@@ -8,8 +8,10 @@
 //! - No two states have one next state, and a full walk is back at 0 after all its states
 //!   (`full_walks_return`). It meets every vector of code bits of columns with duals
 //!   (`every_vector_comes`).
-//! - The registers on numbers are those on lists of bits (`registers_on_bits`), and the signature is
-//!   linear (`signatures_are_linear`).
+//! - The last state of a full walk has a 1 in the last place alone, and then it goes round (`ends_last`).
+//! - The registers on numbers are those on lists of bits (`registers_on_bits`).
+//! - The signature grows by a step a cycle (`signature_grows`) and is linear (`signatures_are_linear`).
+//!   States and signatures keep their register's length (`keeps_length`).
 //! - No call takes memory.
 //!
 //! Not promised: that each degree has a mask of full period. `specs/Register.antt` has the register,
@@ -20,11 +22,12 @@
 mod laws;
 mod masks;
 mod states;
-#[cfg(test)]
-mod tests;
 mod walks;
 
-pub use laws::{every_vector_comes, full_walks_return, registers_on_bits, signatures_are_linear};
+pub use laws::{
+    ends_last, every_vector_comes, full_walks_return, keeps_length, registers_on_bits,
+    signature_grows, signatures_are_linear,
+};
 pub use masks::{NoFullPeriod, taps};
 pub use states::next;
 pub use walks::{Full, Short, walk};

@@ -1,7 +1,7 @@
 // The least mask of full period.
 
 ghost use Rattle.std.specs.Prelude.{◌≡◌, ℕ, OnErr, IfOk, IfErr};
-ghost use Rattle.bb_gf2.specs.Span.{IsLeast};
+ghost use Rattle.bb_base.specs.Firsts.{IsLeast};
 ghost use Rattle.bb_creg.specs.Register.{IsDegree, IsFullMask};
 
 use crate::walks::walk;

@@ -2,8 +2,8 @@
 use Rattle.std.proofs.Common.{◌≡◌, ℕ, ◌<◌, min, List, [], ◌∷◌, ◌++◌, length, take, drop, Option, Some, None, IfSome, refl, sym, ap, ◌∙◌, subst, arith, append-nil, length-take-le, take-append-drop}
 use Rattle.std.proofs.lemmas.Grind.{common_steps}
 use Rattle.std.specs.Option.{option_map}
-use Rattle.bb_edge.specs.Told.{Told, Held, Left, Shows, Cuts, Gives, IsPrefix, Extends}
-use Rattle.bb_edge.specs.Files.{FileValue, IsPlace, IsPlaceOf, held, text_of, with_file, name_at, bytes_at}
+use Rattle.bb_edge.specs.Told.{Told, Held, Left, Shows, Cuts, GivesFront, IsPrefix, Extends}
+use Rattle.bb_edge.specs.Files.{FileValue, IsPlace, IsPlaceOf, held, told_text, with_file, file_name, bytes_at}
 use Rattle.bb_edge.specs.Calls.{Calls}
 use Rattle.bb_edge.specs.Memory.{Memory, HasPlaces, named_place, rest_in}
 use Rattle.bb_edge.specs.declared.files.Place.{Place}
@@ -12,11 +12,11 @@ use Rattle.bb_edge.proofs.FileLemmas.{is_place-found, is_place-with_file}
 -- the files keep their places when a name is given bytes
 reading_first : (name bytes : List ℕ) (files : List FileValue) (reading : Option Place) → IfSome reading (λ place. IsPlace files place.file) → IfSome reading (λ place. IsPlace (with_file name bytes files) place.file)
 reading_first name bytes files None h = h
-reading_first name bytes files (Some place) h = (is_place-with_file (name_at files place.file) name bytes files place.file h).first
+reading_first name bytes files (Some place) h = (is_place-with_file (file_name files place.file) name bytes files place.file h).first
 
 writing_first : (name bytes : List ℕ) (files : List FileValue) (writing : Option ℕ) → IfSome writing (λ file. IsPlace files file) → IfSome writing (λ file. IsPlace (with_file name bytes files) file)
 writing_first name bytes files None h = h
-writing_first name bytes files (Some file) h = (is_place-with_file (name_at files file) name bytes files file h).first
+writing_first name bytes files (Some file) h = (is_place-with_file (file_name files file) name bytes files file h).first
 
 pub HasPlaces-with_file : (name bytes : List ℕ) (files : List FileValue) (reading : Option Place) (writing : Option ℕ) → HasPlaces files reading writing → HasPlaces (with_file name bytes files) reading writing
 HasPlaces-with_file name bytes files reading writing h = record {
@@ -28,16 +28,16 @@ HasPlaces-with_file name bytes files reading writing h = record {
 pub reading-with_file : (name bytes : List ℕ) (files : List FileValue) (reading : Option Place) → IfSome reading (λ place. IsPlace files place.file)
     → option_map (named_place (with_file name bytes files)) reading ≡ option_map (named_place files) reading
 reading-with_file name bytes files None h = refl
-reading-with_file name bytes files (Some place) h = ap (λ (n : List ℕ). Some (n, place.given)) (is_place-with_file (name_at files place.file) name bytes files place.file h).named
+reading-with_file name bytes files (Some place) h = ap (λ (n : List ℕ). Some (n, place.given)) (is_place-with_file (file_name files place.file) name bytes files place.file h).named
 
 pub writing-with_file : (name bytes : List ℕ) (files : List FileValue) (writing : Option ℕ) → IfSome writing (λ file. IsPlace files file)
-    → option_map (name_at (with_file name bytes files)) writing ≡ option_map (name_at files) writing
+    → option_map (file_name (with_file name bytes files)) writing ≡ option_map (file_name files) writing
 writing-with_file name bytes files None h = refl
-writing-with_file name bytes files (Some file) h = ap Some (is_place-with_file (name_at files file) name bytes files file h).named
+writing-with_file name bytes files (Some file) h = ap Some (is_place-with_file (file_name files file) name bytes files file h).named
 
 -- the bytes of a place are those that its name holds
-pub held-at : (files : List FileValue) (place : ℕ) → IsPlace files place → held files (name_at files place) ≡ Held (bytes_at files place)
-held-at files place h = (is_place-found (name_at files place) files place h).bytes
+pub held-at : (files : List FileValue) (place : ℕ) → IsPlace files place → held files (file_name files place) ≡ Held (bytes_at files place)
+held-at files place h = (is_place-found (file_name files place) files place h).bytes
 
 -- bytes were appended to what the name held
 pub extends-held : (had bytes : List ℕ) (old new : Told) → old ≡ Held had → new ≡ Held (had ++ bytes) → Extends old new bytes
@@ -54,7 +54,7 @@ empty [] h = refl
 empty (x ∷ xs) h = absurd (omega arith)
 
 -- as many bytes were given as the buffer and the rest both have
-pub gives : (rest buf new : List ℕ) (count : ℕ) → 0 < length buf → count ≡ min (length rest) (length buf) → new ≡ take count rest ++ drop count buf → Gives rest (take count new) (drop count rest)
+pub gives : (rest buf new : List ℕ) (count : ℕ) → 0 < length buf → count ≡ min (length rest) (length buf) → new ≡ take count rest ++ drop count buf → GivesFront rest (take count new) (drop count rest)
 gives rest buf new count room e f =
     let front : take count new ≡ take count rest = grind (arith, common_steps) in
     let long : length (take count rest) ≡ count = length-take-le count rest (omega arith) in
@@ -81,7 +81,7 @@ abbrev pub memory_at : List FileValue → Option Place → Option ℕ → Calls 
 memory_at files reading writing calls read_faults write_faults = record {
   files = files;
   reading = option_map (named_place files) reading;
-  writing = option_map (name_at files) writing;
+  writing = option_map (file_name files) writing;
   calls = calls;
   read_faults = read_faults;
   write_faults = write_faults;
@@ -111,7 +111,7 @@ pub rest-at : (files : List FileValue) (reading : Option Place) (place : Place) 
     → drop place.given (bytes_at files place.file) ≡ rest
 rest-at files None place rest is h e = cc
 rest-at files (Some p) place rest is h e =
-    let told : Left (drop p.given (bytes_at files p.file)) ≡ Left rest = ap (λ (t : Told). Left (drop p.given (text_of t))) (sym (held-at files p.file h)) ∙ e in
+    let told : Left (drop p.given (bytes_at files p.file)) ≡ Left rest = ap (λ (t : Told). Left (drop p.given (told_text t))) (sym (held-at files p.file h)) ∙ e in
     let one : p ≡ place = cc in
     subst (λ (k : Place). drop k.given (bytes_at files k.file) ≡ rest) one cc
 

@@ -1,9 +1,8 @@
 -- A store that never fails meets what is said of each call.
-use Rattle.std.proofs.Common.{◌≡◌, ◌≢◌, ◌++◌, ℕ, Bool, true, false, List, [], ◌∷◌, length, map, Option, Some, Result, Ok, Err, IsOk, OnOk, OnErr, IfSome, refl, sym, subst, arith}
+use Rattle.std.proofs.Common.{◌≡◌, ◌≢◌, ◌++◌, ℕ, Bool, true, false, List, [], ◌∷◌, length, map, Option, Some, Result, Ok, Err, OnOk, IfSome, refl, sym, subst}
 use Rattle.std.specs.Str.{bytes_eq}
-use Rattle.bb_edge.specs.Causes.{HasCause, Rose}
 use Rattle.bb_edge.specs.Told.{Told, Untold, Absent, Held, Shows, Extends}
-use Rattle.bb_edge.specs.Files.{FileValue, held, text_of, bytes_at}
+use Rattle.bb_edge.specs.Files.{FileValue, held, told_text, bytes_at}
 use Rattle.bb_edge.specs.Sure.{told_in, writing_in}
 use Rattle.bb_edge.proofs.FileLemmas.{bytes_eq-refl}
 
@@ -12,21 +11,12 @@ pub on_ok : {T E : Type 0} (result : Result T E) (P : Type 0) → P → OnOk res
 on_ok (Ok x) P h = h
 on_ok (Err e) P h = tt
 
--- no call failed
-pub never_err : {T E : Type 0} (result : Result T E) (P : Type 0) → IsOk result → OnErr result P
-never_err (Ok x) P h = tt
-never_err (Err e) P h = absurd (cc)
-
--- so no count rose
-pub HasCause-never : {T E : Type 0} (result : Result T E) → IsOk result → HasCause 0 0 result
-HasCause-never result h = record { later = omega arith; failed = never_err result (Rose 0 0) h }
-
 -- what is told of a name is what is read from it
-pub text-told : (files : List FileValue) (written : List (List ℕ)) (name text : List ℕ) → told_in files written name ≡ Held text → text_of (held files name) ≡ text
+pub text-told : (files : List FileValue) (written : List (List ℕ)) (name text : List ℕ) → told_in files written name ≡ Held text → told_text (held files name) ≡ text
 text-told files [] name text h = cc
 text-told files (w ∷ written) name text h = go (bytes_eq w name) refl (text-told files written name text)
   where
-    go : (t : Bool) → bytes_eq w name ≡ t → (told_in files written name ≡ Held text → text_of (held files name) ≡ text) → text_of (held files name) ≡ text
+    go : (t : Bool) → bytes_eq w name ≡ t → (told_in files written name ≡ Held text → told_text (held files name) ≡ text) → told_text (held files name) ≡ text
     go true e rest = let q = rw e at h in cc
     go false e rest = rest (rw e at h)
 

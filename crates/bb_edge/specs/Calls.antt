@@ -23,12 +23,12 @@ count_of PutPiece calls = calls.put_pieces
 count_of PutEnd calls = calls.put_ends
 
 -- the calls once there was one more of a step
-abbrev pub counted : Step → Calls → Calls
-counted Begin calls = record calls { begins = one_more calls.begins }
-counted Piece calls = record calls { pieces = one_more calls.pieces }
-counted PutBegin calls = record calls { put_begins = one_more calls.put_begins }
-counted PutPiece calls = record calls { put_pieces = one_more calls.put_pieces }
-counted PutEnd calls = record calls { put_ends = one_more calls.put_ends }
+abbrev pub with_call : Step → Calls → Calls
+with_call Begin calls = record calls { begins = one_more calls.begins }
+with_call Piece calls = record calls { pieces = one_more calls.pieces }
+with_call PutBegin calls = record calls { put_begins = one_more calls.put_begins }
+with_call PutPiece calls = record calls { put_pieces = one_more calls.put_pieces }
+with_call PutEnd calls = record calls { put_ends = one_more calls.put_ends }
 
 -- the next call of a step is to fail
 abbrev pub IsDue : Step → Calls → Type 0

@@ -1,7 +1,7 @@
 -- A store and a sink in memory, as contracts see them (this project's own).
 use Rattle.std.specs.Prelude.{ℕ, List, Option, Some, None, IfSome, drop}
-use Rattle.bb_edge.specs.Told.{Reading, Idle, Left}
-use Rattle.bb_edge.specs.Files.{FileValue, IsPlace, held, name_at, text_of}
+use Rattle.bb_edge.specs.Told.{BeingRead, Idle, Left}
+use Rattle.bb_edge.specs.Files.{FileValue, IsPlace, held, file_name, told_text}
 use Rattle.bb_edge.specs.Calls.{Calls}
 use Rattle.bb_edge.specs.declared.files.Place.{Place}
 
@@ -16,12 +16,12 @@ pub record Memory : Type 0 where
   pub write_faults : ℕ
 
 -- the bytes of the name that is being read, but for those that were given
-abbrev pub rest_in : List FileValue → Option (List ℕ × ℕ) → Reading
+abbrev pub rest_in : List FileValue → Option (List ℕ × ℕ) → BeingRead
 rest_in files None = Idle
-rest_in files (Some place) = Left (drop place.1 (text_of (held files place.0)))
+rest_in files (Some place) = Left (drop place.1 (told_text (held files place.0)))
 
 -- what is being read from a store in memory
-abbrev pub reading_of : Memory → Reading
+abbrev pub reading_of : Memory → BeingRead
 reading_of memory = rest_in memory.files memory.reading
 
 -- a sink in memory: the bytes that were put, the number of the put that is to fail, the number of puts, and the count of faults
@@ -38,4 +38,4 @@ pub record HasPlaces (files : List FileValue) (reading : Option Place) (writing 
 
 -- a place in a file, by the file's name
 abbrev pub named_place : List FileValue → Place → List ℕ × ℕ
-named_place files place = (name_at files place.file, place.given)
+named_place files place = (file_name files place.file, place.given)

@@ -1,8 +1,8 @@
 -- A store that never fails, as contracts see it (this project's own).
 use Rattle.std.specs.Prelude.{ℕ, Bool, true, false, List, [], ◌∷◌, Option, None, Some, if◌then◌else◌, drop}
 use Rattle.std.specs.Str.{bytes_eq}
-use Rattle.bb_edge.specs.Told.{Told, Untold, Held, Reading, Idle, Left}
-use Rattle.bb_edge.specs.Files.{FileValue, held, text_of, bytes_at}
+use Rattle.bb_edge.specs.Told.{Told, Untold, Held, BeingRead, Idle, Left}
+use Rattle.bb_edge.specs.Files.{FileValue, held, told_text, bytes_at}
 use Rattle.bb_edge.specs.declared.files.Place.{Place}
 
 -- its files, the rest of what is being read, whether a name is being written, and all names that were written, the last one first
@@ -14,11 +14,11 @@ pub record Sure : Type 0 where
 
 -- what a name holds: an absent one is read as empty, and one that was written isn't told any more
 abbrev pub told_in : List FileValue → List (List ℕ) → List ℕ → Told
-told_in files [] name = Held (text_of (held files name))
+told_in files [] name = Held (told_text (held files name))
 told_in files (w ∷ written) name = if bytes_eq w name then Untold else told_in files written name
 
 -- what is being read is told, or nothing is read
-abbrev pub left_if : Option (List ℕ) → Reading
+abbrev pub left_if : Option (List ℕ) → BeingRead
 left_if None = Idle
 left_if (Some rest) = Left rest
 

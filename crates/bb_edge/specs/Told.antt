@@ -9,10 +9,10 @@ pub data Told : Type 0 where
   Held : (bytes : List ℕ) → Told
 
 -- what is being read: nothing, a file whose rest isn't told, or a file with these bytes left
-pub data Reading : Type 0 where
-  Idle : Reading
-  Unknown : Reading
-  Left : (rest : List ℕ) → Reading
+pub data BeingRead : Type 0 where
+  Idle : BeingRead
+  Unknown : BeingRead
+  Left : (rest : List ℕ) → BeingRead
 
 -- where it is told, the name holds this text
 abbrev pub Shows : Told → List ℕ → Type 0
@@ -21,13 +21,13 @@ Shows Absent text = ⊥
 Shows (Held bytes) text = bytes ≡ text
 
 -- something is being read
-abbrev pub IsReading : Reading → Type 0
+abbrev pub IsReading : BeingRead → Type 0
 IsReading Idle = ⊥
 IsReading Unknown = Unit {0}
 IsReading (Left rest) = Unit {0}
 
 -- the front of the rest was given, and nothing was given exactly at the end
-pub record Gives (rest given left : List ℕ) : Type 0 where
+pub record GivesFront (rest given left : List ℕ) : Type 0 where
   pub split : rest ≡ given ++ left
   pub at_end : (given ≡ []) ↔ (rest ≡ [])
 

@@ -1,7 +1,7 @@
 ghost use Rattle.std.specs.Prelude.{◌≡◌, ◌≢◌, ◌++◌, ◌∷◌, [], length, take, drop, min, position, IfOk, MatchOption, OnErr, OnOk};
 ghost use Rattle.std.specs.Str.{bytes_eq};
 ghost use Rattle.bb_edge.specs.Told.{Absent};
-ghost use Rattle.bb_edge.specs.Files.{place_of, held, name_at, bytes_at, with_file, IsPlace, IsPlaceOf};
+ghost use Rattle.bb_edge.specs.Files.{file_place, held, file_name, bytes_at, with_file, IsPlace, IsPlaceOf};
 
 use std::alloc::{AllocError, Global};
 use std::marker::Model;
@@ -53,7 +53,7 @@ impl File {
         self.bytes.extend_from_slice(bytes)
     }
 
-    /// Gives it other bytes.
+    /// GivesFront it other bytes.
     fn replace(&mut self, bytes: Vec<u8>)
         ensures { self.new ≡ (self.old.0, bytes.items) }
     {
@@ -90,7 +90,7 @@ impl Files {
 
     /// The place of the file with this name.
     pub(crate) fn find(&self, name: &str) -> Option<usize>
-        ensures value { result ≡ place_of name.now self.now }
+        ensures value { result ≡ file_place name.now self.now }
         ensures cases { MatchOption result (held self.now name.now ≡ Absent) (λ place. IsPlaceOf self.now name.now place) }
     {
         find(&self.list, name)
@@ -104,7 +104,7 @@ impl Files {
         self.list[place].bytes()
     }
 
-    /// Gives a name these bytes.
+    /// GivesFront a name these bytes.
     pub(crate) fn set(&mut self, name: &str, bytes: &[u8]) -> Result<(), AllocError>
         ensures ok { OnOk result (self.new ≡ with_file name.now bytes.now self.old) }
         ensures err { OnErr result (self.new ≡ self.old) }
@@ -145,7 +145,7 @@ impl Files {
     /// Appends bytes to the file in this place.
     pub(crate) fn append(&mut self, place: usize, bytes: &[u8]) -> Result<(), AllocError>
         requires { IsPlace self.old place }
-        ensures ok { OnOk result (self.new ≡ with_file (name_at self.old place) (bytes_at self.old place ++ bytes.now) self.old) }
+        ensures ok { OnOk result (self.new ≡ with_file (file_name self.old place) (bytes_at self.old place ++ bytes.now) self.old) }
         ensures err { OnErr result (self.new ≡ self.old) }
         ensures grows { OnErr result (bytes.now ≢ []) }
     {

@@ -1,6 +1,7 @@
 //! The outside: what the program reads and writes, as traits that say what each call does and when it fails.
 //!
-//! - A [`Store`] is files by name. A call of it fails only where a count of its faults rose in that call.
+//! - A [`Store`] is files by name. A count of its faults rises in each call that fails, and in no other; one that has come to
+//!   2^64 - 1 stands.
 //! - Reading changes no contents, and writing changes those of the one name that is being written.
 //! - A [`Sink`] takes bytes in order, and after a put that failed it has a front of them.
 //! - [`MemStore`] and [`MemSink`] tell all that they hold. They fail exactly where they are asked to, where a name isn't
@@ -22,8 +23,6 @@ mod sink;
 mod store;
 mod sure_sink;
 mod sure_store;
-#[cfg(test)]
-mod tests;
 mod written;
 
 pub use dir_store::DirStore;

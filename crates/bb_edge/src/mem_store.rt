@@ -1,9 +1,9 @@
 ghost use Rattle.std.specs.Option.{option_map};
 ghost use Rattle.std.specs.Prelude.{◌≡◌, ◌≢◌, ◌⊎◌, ◌↔◌, ◌<◌, ◌≤◌, ◌+◌, ◌++◌, ℕ, List, [], None, Some, length, take, drop, min, IfOk, OnOk, OnErr, IsErr, IsSome, IfSome, MatchOption};
 ghost use Rattle.bb_edge.specs.Causes.{HasCause, one_more};
-ghost use Rattle.bb_edge.specs.Told.{Absent, Held, Idle, Left, IsReading, Shows, Gives, IsPrefix, SameBut, KeepsOrEmpties, Extends, Cuts};
-ghost use Rattle.bb_edge.specs.Files.{held, text_of, with_file};
-ghost use Rattle.bb_edge.specs.Calls.{IsDue, counted};
+ghost use Rattle.bb_edge.specs.Told.{Absent, Held, Idle, Left, IsReading, Shows, GivesFront, IsPrefix, SameBut, KeepsOrEmpties, Extends, Cuts};
+ghost use Rattle.bb_edge.specs.Files.{held, told_text, with_file};
+ghost use Rattle.bb_edge.specs.Calls.{IsDue, with_call};
 ghost use Rattle.bb_edge.specs.Memory.{reading_of};
 ghost use Rattle.bb_edge.specs.declared.schedule.Step.TheVariants.{Begin, Piece, PutBegin, PutPiece, PutEnd};
 
@@ -26,7 +26,7 @@ pub struct MemStore {
 
 impl Model for MemStore {
     ghost use Rattle.std.specs.Option.{option_map};
-    ghost use Rattle.bb_edge.specs.Files.{name_at};
+    ghost use Rattle.bb_edge.specs.Files.{file_name};
     ghost use Rattle.bb_edge.specs.Memory.{Memory, HasPlaces, named_place};
 
     ghost Value = { Memory };
@@ -34,7 +34,7 @@ impl Model for MemStore {
     ghost view = { λ s. record {
       files = s.files;
       reading = option_map (named_place s.files) s.reading;
-      writing = option_map (name_at s.files) s.writing;
+      writing = option_map (file_name s.files) s.writing;
       calls = s.schedule;
       read_faults = s.read_faults;
       write_faults = s.write_faults;
@@ -62,7 +62,7 @@ impl MemStore {
         }
     }
 
-    /// Gives a name these bytes, whether it was held or not.
+    /// GivesFront a name these bytes, whether it was held or not.
     pub fn set(&mut self, name: &str, bytes: &[u8]) -> Result<(), AllocError>
         ensures ok { OnOk result (self.new ≡ record self.old { files = with_file name.now bytes.now self.old.files }) }
         ensures err { OnErr result (self.new ≡ self.old) }
@@ -118,8 +118,8 @@ impl Store for MemStore {
     /// Fails exactly where its call is to fail or the name isn't held.
     fn begin(&mut self, name: &str) -> Result<(), Failed>
         ensures fails { IsErr result ↔ (IsDue Begin self.old.calls ⊎ (held self.old.files name.now ≡ Absent)) }
-        ensures ok { OnOk result (self.new ≡ record self.old { calls = counted Begin self.old.calls; reading = Some (name.now, 0) }) }
-        ensures err { OnErr result (self.new ≡ record self.old { calls = counted Begin self.old.calls; reading = None; read_faults = one_more self.old.read_faults }) }
+        ensures ok { OnOk result (self.new ≡ record self.old { calls = with_call Begin self.old.calls; reading = Some (name.now, 0) }) }
+        ensures err { OnErr result (self.new ≡ record self.old { calls = with_call Begin self.old.calls; reading = None; read_faults = one_more self.old.read_faults }) }
 
         ensures started { OnOk result (IsReading (reading_of self.new)) }
         ensures first { OnOk result ((text : List ℕ) → held self.old.files name.now ≡ Held text → reading_of self.new ≡ Left text) }
@@ -147,14 +147,14 @@ impl Store for MemStore {
 
         ensures fails { IsErr result ↔ IsDue Piece self.old.calls }
         ensures count { IfOk result (λ count. (rest : List ℕ) → reading_of self.old ≡ Left rest → (count ≡ min (length rest) (length buf.old)) × (buf.new ≡ take count rest ++ drop count buf.old)) }
-        ensures ok { IfOk result (λ count. self.new ≡ record self.old { calls = counted Piece self.old.calls; reading = option_map (λ place. (place.0, place.1 + count)) self.old.reading }) }
-        ensures err { OnErr result (self.new ≡ record self.old { calls = counted Piece self.old.calls; reading = None; read_faults = one_more self.old.read_faults }) }
+        ensures ok { IfOk result (λ count. self.new ≡ record self.old { calls = with_call Piece self.old.calls; reading = option_map (λ place. (place.0, place.1 + count)) self.old.reading }) }
+        ensures err { OnErr result (self.new ≡ record self.old { calls = with_call Piece self.old.calls; reading = None; read_faults = one_more self.old.read_faults }) }
         ensures buffer { OnErr result (buf.new ≡ buf.old) }
 
         ensures goes_on { OnOk result (IsReading (reading_of self.new)) }
         ensures within { IfOk result (λ count. count ≤ length buf.new) }
         ensures bytes { IfOk result (λ count. (rest : List ℕ) → reading_of self.old ≡ Left rest
-            → Gives rest (take count buf.new) (drop count rest) × (reading_of self.new ≡ Left (drop count rest))) }
+            → GivesFront rest (take count buf.new) (drop count rest) × (reading_of self.new ≡ Left (drop count rest))) }
         ensures failed { OnErr result (reading_of self.new ≡ Idle) }
         ensures contents { held self.new.files ≡ held self.old.files }
         ensures writing { self.new.writing ≡ self.old.writing }
@@ -182,8 +182,8 @@ impl Store for MemStore {
 
         ensures due { IsDue PutBegin self.old.calls → IsErr result }
         ensures grows { OnErr result (IsDue PutBegin self.old.calls ⊎ (held self.old.files name.now ≡ Absent)) }
-        ensures ok { OnOk result (self.new ≡ record self.old { files = with_file name.now [] self.old.files; calls = counted PutBegin self.old.calls; writing = Some name.now }) }
-        ensures err { OnErr result (self.new ≡ record self.old { calls = counted PutBegin self.old.calls; write_faults = one_more self.old.write_faults }) }
+        ensures ok { OnOk result (self.new ≡ record self.old { files = with_file name.now [] self.old.files; calls = with_call PutBegin self.old.calls; writing = Some name.now }) }
+        ensures err { OnErr result (self.new ≡ record self.old { calls = with_call PutBegin self.old.calls; write_faults = one_more self.old.write_faults }) }
 
         ensures started { OnOk result (self.new.writing ≡ Some name.now) }
         ensures emptied { OnOk result (Shows (held self.new.files name.now) []) }
@@ -213,8 +213,8 @@ impl Store for MemStore {
         ensures due { IsDue PutPiece self.old.calls → IsErr result }
         ensures grows { OnErr result (IsDue PutPiece self.old.calls ⊎ (bytes.now ≢ [])) }
         ensures ok { OnOk result (IfSome self.old.writing (λ name.
-            self.new ≡ record self.old { files = with_file name (text_of (held self.old.files name) ++ bytes.now) self.old.files; calls = counted PutPiece self.old.calls })) }
-        ensures err { OnErr result (self.new ≡ record self.old { calls = counted PutPiece self.old.calls; writing = None; write_faults = one_more self.old.write_faults }) }
+            self.new ≡ record self.old { files = with_file name (told_text (held self.old.files name) ++ bytes.now) self.old.files; calls = with_call PutPiece self.old.calls })) }
+        ensures err { OnErr result (self.new ≡ record self.old { calls = with_call PutPiece self.old.calls; writing = None; write_faults = one_more self.old.write_faults }) }
 
         ensures goes_on { OnOk result (self.new.writing ≡ self.old.writing) }
         ensures all { OnOk result (IfSome self.old.writing (λ name. Extends (held self.old.files name) (held self.new.files name) bytes.now)) }
@@ -239,8 +239,8 @@ impl Store for MemStore {
         requires { IsSome self.old.writing }
 
         ensures fails { IsErr result ↔ IsDue PutEnd self.old.calls }
-        ensures ok { OnOk result (self.new ≡ record self.old { calls = counted PutEnd self.old.calls; writing = None }) }
-        ensures err { OnErr result (self.new ≡ record self.old { calls = counted PutEnd self.old.calls; writing = None; write_faults = one_more self.old.write_faults }) }
+        ensures ok { OnOk result (self.new ≡ record self.old { calls = with_call PutEnd self.old.calls; writing = None }) }
+        ensures err { OnErr result (self.new ≡ record self.old { calls = with_call PutEnd self.old.calls; writing = None; write_faults = one_more self.old.write_faults }) }
 
         ensures stopped { self.new.writing ≡ None }
         ensures all { OnOk result (held self.new.files ≡ held self.old.files) }
@@ -252,7 +252,7 @@ impl Store for MemStore {
         if self.schedule.count(Step::PutEnd) {
             return Err(self.fail_put());
         }
-        self.writing = None;
+        self.writing.take();
         Ok(())
     }
 }

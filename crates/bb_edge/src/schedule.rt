@@ -55,7 +55,7 @@ pub(crate) fn one_more(count: u64) -> u64
 }
 
 impl Schedule {
-    ghost use Rattle.bb_edge.specs.Calls.{IsDue, count_of, counted};
+    ghost use Rattle.bb_edge.specs.Calls.{IsDue, count_of, with_call};
 
     /// No call was made yet.
     pub(crate) fn new(fails: Vec<Fail>) -> Self
@@ -74,7 +74,7 @@ impl Schedule {
     /// Counts a call of a step, and answers whether it is to fail.
     pub(crate) fn count(&mut self, step: Step) -> bool
         ensures due { IsTrue result ↔ IsDue step self.old }
-        ensures counted { self.new ≡ counted step self.old }
+        ensures counted { self.new ≡ with_call step self.old }
     {
         let nth = self.count_of(step);
         let count = one_more(nth);

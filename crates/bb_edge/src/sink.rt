@@ -4,7 +4,7 @@ ghost use Rattle.bb_edge.specs.Told.{AppendsAll, AppendsFront};
 
 use crate::Failed;
 
-/// Where lines are put. The count of faults never falls, and a put fails only where it rose.
+/// Where lines are put. The count of faults never falls, and rises where a put fails, and nowhere else.
 pub trait Sink {
     /// The bytes that were put so far, where the sink tells them.
     ghost told: { Self → Option (List ℕ) };

@@ -1,6 +1,6 @@
 ghost use Rattle.std.specs.Prelude.{◌≡◌, ◌<◌, ◌≤◌, ℕ, List, [], Option, None, Some, length, take, drop, IfOk, OnOk, OnErr, IsErr, IsSome, IfSome};
 ghost use Rattle.bb_edge.specs.Causes.{HasCause};
-ghost use Rattle.bb_edge.specs.Told.{Told, Absent, Held, Reading, Idle, Left, IsReading, Shows, Gives, IsPrefix, SameBut, KeepsOrEmpties, Extends, Cuts};
+ghost use Rattle.bb_edge.specs.Told.{Told, Absent, Held, BeingRead, Idle, Left, IsReading, Shows, GivesFront, IsPrefix, SameBut, KeepsOrEmpties, Extends, Cuts};
 
 /// A call of the outside failed, and a count of faults says that it did.
 #[derive(Clone, Copy, Debug, PartialEq, Eq)]
@@ -8,14 +8,14 @@ pub struct Failed;
 
 /// Files by name, of which at most one is read and at most one is written at a time. A store need not tell what it holds.
 ///
-/// No count ever falls, and a call fails only where the count of its kind rose. Which names may be read and written is
+/// No count ever falls, and the count of a call's kind rises where the call fails, and nowhere else. Which names may be read and written is
 /// settled once for a type, so that no code touches a name that its caller didn't give.
 pub trait Store {
     /// What each name holds, where the store tells it.
     ghost holds: { Self → List ℕ → Told };
 
     /// What is being read, and what is left of it where the store tells it.
-    ghost reading: { Self → Reading };
+    ghost reading: { Self → BeingRead };
 
     /// The name that is being written.
     ghost writing: { Self → Option (List ℕ) };
@@ -51,7 +51,7 @@ pub trait Store {
         ensures goes_on { OnOk result (IsReading (reading self.new)) }
         ensures within { IfOk result (λ count. count ≤ length buf.new) }
         ensures bytes { IfOk result (λ count. (rest : List ℕ) → reading self.old ≡ Left rest
-            → Gives rest (take count buf.new) (drop count rest) × (reading self.new ≡ Left (drop count rest))) }
+            → GivesFront rest (take count buf.new) (drop count rest) × (reading self.new ≡ Left (drop count rest))) }
         ensures failed { OnErr result (reading self.new ≡ Idle) }
         ensures contents { holds self.new ≡ holds self.old }
         ensures writing { writing self.new ≡ writing self.old }

@@ -1,7 +1,7 @@
 ghost use Rattle.std.specs.Prelude.{◌≡◌, ◌++◌, ◌∷◌, ◌<◌, [], None, Some, true, false, IsOk, IsSome, IfOk, IfSome, length, map, min, string_bytes, take, drop, position};
 ghost use Rattle.std.specs.Str.{bytes_eq};
 ghost use Rattle.std.specs.Option.{option_map};
-ghost use Rattle.bb_edge.specs.Files.{held, text_of, bytes_at};
+ghost use Rattle.bb_edge.specs.Files.{held, told_text, bytes_at};
 ghost use Rattle.bb_edge.specs.Sure.{left_if, told_in, writing_of};
 
 use crate::files::{Place, give};
@@ -57,7 +57,7 @@ fn find(files: &[(String, Vec<u8>)], name: &str) -> Option<usize>
 
 /// The place of the first file with this name, or the one behind all files.
 fn find_or_end(files: &[(String, Vec<u8>)], name: &str) -> usize
-    ensures { bytes_at (map (λ f. (string_bytes f.0, f.1.items)) files.now) result ≡ text_of (held (map (λ f. (string_bytes f.0, f.1.items)) files.now) name.now) }
+    ensures { bytes_at (map (λ f. (string_bytes f.0, f.1.items)) files.now) result ≡ told_text (held (map (λ f. (string_bytes f.0, f.1.items)) files.now) name.now) }
 {
     match find(files, name) {
         Some(place) => place,
@@ -92,7 +92,7 @@ impl Store for SureStore {
 
     fn begin(&mut self, name: &str) -> Result<(), Failed>
         ensures sure { IsOk result }
-        ensures begun { self.new ≡ record self.old { reading = Some (text_of (held self.old.files name.now)) } }
+        ensures begun { self.new ≡ record self.old { reading = Some (told_text (held self.old.files name.now)) } }
     {
         self.reading = Some(Place {
             file: find_or_end(&self.files, name),

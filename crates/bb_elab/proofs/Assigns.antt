@@ -2,25 +2,27 @@
 use Rattle.std.proofs.Common.{arith, ◌≡◌, ℕ, suc, zero, ◌+◌, ◌≤◌, List, [], ◌∷◌, length, take, drop, refl, ap, sym, ◌∙◌, Bool, true, false, ◌&&◌, ◌==◌, cond, subst, rules, length-append, nat_le}
 use Rattle.std.specs.Prelude.{Option, Some, None, flat_map}
 use Rattle.std.specs.List.{list_all}
-use Rattle.bb_net.specs.declared.net.Op.{Op}
-use Rattle.bb_net.specs.declared.net.Op.TheVariants as op
-use Rattle.bb_net.specs.Bits.{Entry}
+use Rattle.bb_base.specs.declared.operator.Op.{Op}
+use Rattle.bb_base.specs.declared.operator.Op.TheVariants as op
+use Rattle.bb_base.specs.Variables.{Entry}
 use Rattle.bb_parse.specs.declared.syntax.Ref.{Ref}
 use Rattle.bb_parse.specs.declared.syntax.Step.{Step}
 use Rattle.bb_parse.specs.declared.syntax.Step.TheVariants as step
-use Rattle.bb_elab.specs.declared.fault.ElabFault.{ElabFault}
-use Rattle.bb_elab.specs.declared.fault.ElabFault.TheVariants.{BadPins}
-use Rattle.bb_elab.specs.declared.value.Bit.{Bit}
-use Rattle.bb_elab.specs.declared.value.Bit.TheVariants.{Net, Fixed}
-use Rattle.bb_elab.specs.declared.sizes.Size.{Size}
-use Rattle.bb_elab.specs.Firsts.{first_answer}
-use Rattle.bb_elab.specs.Cells.{is_plain}
-use Rattle.bb_elab.specs.References.{ref_fault, left_width}
-use Rattle.bb_elab.specs.Sizes.{width, step_stack, step_nets, steps_stack, steps_nets, steps_fault, last_size, is_last, differs, expr_fault, terminal_nets, value_nets}
-use Rattle.bb_elab.specs.Parts.{out_count, outs_of, ins_of, are_right_terms, terms_nets, prim_fault, assign_fault}
-use Rattle.bb_elab.specs.Making.{Work, New, To, ref_bits, last_value, step_made, copied_onto, drive, constant, is_operator, assigned, terminals_made, terminal_made, all_driven, driven_bits, prim_made}
-use Rattle.bb_elab.specs.Made.{sizes_of}
-use Rattle.bb_elab.proofs.Parted.{both-second, none-second}
+use Rattle.bb_fault.specs.declared.fault.ElabFault.{ElabFault}
+use Rattle.bb_fault.specs.declared.fault.ElabFault.TheVariants.{BadPins}
+use Rattle.bb_gates.specs.declared.value.Bit.{Bit}
+use Rattle.bb_gates.specs.declared.value.Bit.TheVariants.{Net, Fixed}
+use Rattle.bb_width.specs.declared.sizes.Size.{Size}
+use Rattle.bb_fault.specs.Firsts.{first_answer}
+use Rattle.bb_scope.specs.Cells.{is_plain}
+use Rattle.bb_scope.specs.References.{ref_fault, left_width, ref_bits}
+use Rattle.bb_width.specs.Sizes.{width, step_stack, step_nets, steps_stack, steps_nets, steps_fault, last_size, differs, expr_fault, terminal_nets, value_nets}
+use Rattle.bb_scope.specs.Terminals.{is_last, out_count, outs_of, ins_of}
+use Rattle.bb_width.specs.Parts.{are_right_terms, terms_nets, prim_fault, assign_fault}
+use Rattle.bb_drive.specs.Work.{Work, drive, constant}
+use Rattle.bb_gates.specs.Making.{New, To, last_value, step_made, copied_onto, makes_gates, assigned, terminals_made, terminal_made, all_driven, driven_bits, prim_made}
+use Rattle.bb_elab.specs.ValueSizes.{value_sizes}
+use Rattle.bb_fault.proofs.Parted.{both-second, none-second}
 use Rattle.bb_elab.proofs.Operators.{inverted-onto, joined-onto, chosen-onto}
 use Rattle.bb_elab.proofs.Expressions.{ref-length, counted, terminal-fresh}
 
@@ -32,8 +34,8 @@ copied-fresh (t ∷ targets) (Fixed one ∷ bits) w = copied-fresh targets bits 
 
 -- an operator whose gates drive targets, of which there are enough
 onto-fresh :
-    (table : List Entry) (targets : List ℕ) (s : Step) (stack : List (List Bit)) (w : Work) → is_operator s ≡ true → width (last_size (step_stack table s (sizes_of stack))) ≤ length targets
-    → (step_made table (To targets) s stack w).1.fresh ≡ w.fresh + step_nets true s (sizes_of stack)
+    (table : List Entry) (targets : List ℕ) (s : Step) (stack : List (List Bit)) (w : Work) → makes_gates s ≡ true → width (last_size (step_stack table s (value_sizes stack))) ≤ length targets
+    → (step_made table (To targets) s stack w).1.fresh ≡ w.fresh + step_nets true s (value_sizes stack)
 onto-fresh table targets (step.Ref r) stack w e h = cc
 onto-fresh table targets (step.Const n value) stack w e h = cc
 onto-fresh table targets step.Not [] w e h = omega arith
@@ -58,7 +60,7 @@ onto-fresh table targets (step.Join n) stack w e h = cc
 onto-fresh table targets (step.Repeat n) stack w e h = cc
 
 -- what is no operator makes no nets
-no-nets : (d : Bool) (s : Step) (stack : List Size) → is_operator s ≡ false → step_nets d s stack ≡ step_nets false s stack
+no-nets : (d : Bool) (s : Step) (stack : List Size) → makes_gates s ≡ false → step_nets d s stack ≡ step_nets false s stack
 no-nets d (step.Ref r) stack e = refl
 no-nets d (step.Const n value) stack e = refl
 no-nets d step.Not stack e = cc
@@ -72,28 +74,28 @@ no-nets d (step.Repeat n) stack e = refl
 
 -- the last step of an assign
 one-fresh :
-    (table : List Entry) (targets : List ℕ) (s : Step) (stack : List (List Bit)) (w : Work) (b : Bool) → is_operator s ≡ b → width (last_size (step_stack table s (sizes_of stack))) ≤ length targets
+    (table : List Entry) (targets : List ℕ) (s : Step) (stack : List (List Bit)) (w : Work) (b : Bool) → makes_gates s ≡ b → width (last_size (step_stack table s (value_sizes stack))) ≤ length targets
     → (cond {A = Work → List ℕ × Work} b (λ v. ([], (step_made table (To targets) s stack v).1)) (λ v. copied_onto targets (last_value (step_made table New s stack v).0) (step_made table New s stack v).1) w).1.fresh
-    ≡ w.fresh + (step_nets true s (sizes_of stack) + 0)
+    ≡ w.fresh + (step_nets true s (value_sizes stack) + 0)
 one-fresh table targets s stack w true e h = omega (arith, onto-fresh table targets s stack w e h)
 one-fresh table targets s stack w false e h =
     let here = counted table s stack w in
     let made = step_made table New s stack w in
-    omega (arith, copied-fresh targets (last_value made.0) made.1, here.fresh, no-nets true s (sizes_of stack) e)
+    omega (arith, copied-fresh targets (last_value made.0) made.1, here.fresh, no-nets true s (value_sizes stack) e)
 
 -- an assign, where the targets are as many as the value's bits
 pub assigned-fresh :
-    (table : List Entry) (targets : List ℕ) (steps : List Step) (stack : List (List Bit)) (w : Work) → width (last_size (steps_stack table steps (sizes_of stack))) ≤ length targets
-    → (assigned table targets steps stack w).1.fresh ≡ w.fresh + steps_nets table true steps (sizes_of stack)
+    (table : List Entry) (targets : List ℕ) (steps : List Step) (stack : List (List Bit)) (w : Work) → width (last_size (steps_stack table steps (value_sizes stack))) ≤ length targets
+    → (assigned table targets steps stack w).1.fresh ≡ w.fresh + steps_nets table true steps (value_sizes stack)
 assigned-fresh table targets [] stack w h = copied-fresh targets (last_value stack) w ∙ omega arith
-assigned-fresh table targets (s ∷ []) stack w h = one-fresh table targets s stack w (is_operator s) refl h
+assigned-fresh table targets (s ∷ []) stack w h = one-fresh table targets s stack w (makes_gates s) refl h
 assigned-fresh table targets (s ∷ next ∷ more) stack w h =
     let here = counted table s stack w in
     let made = step_made table New s stack w in
-    let rest : steps_nets table true (next ∷ more) (sizes_of made.0) ≡ steps_nets table true (next ∷ more) (step_stack table s (sizes_of stack)) = ap (λ z. steps_nets table true (next ∷ more) z) here.sizes in
-    let same : steps_stack table (next ∷ more) (sizes_of made.0) ≡ steps_stack table (next ∷ more) (step_stack table s (sizes_of stack)) = ap (λ z. steps_stack table (next ∷ more) z) here.sizes in
-    let few : width (last_size (steps_stack table (next ∷ more) (sizes_of made.0))) ≤ length targets = subst (λ z. width (last_size z) ≤ length targets) (sym same) h in
-    let others : step_nets (true && is_last (next ∷ more)) s (sizes_of stack) ≡ step_nets false s (sizes_of stack) = refl in
+    let rest : steps_nets table true (next ∷ more) (value_sizes made.0) ≡ steps_nets table true (next ∷ more) (step_stack table s (value_sizes stack)) = ap (λ z. steps_nets table true (next ∷ more) z) here.sizes in
+    let same : steps_stack table (next ∷ more) (value_sizes made.0) ≡ steps_stack table (next ∷ more) (step_stack table s (value_sizes stack)) = ap (λ z. steps_stack table (next ∷ more) z) here.sizes in
+    let few : width (last_size (steps_stack table (next ∷ more) (value_sizes made.0))) ≤ length targets = subst (λ z. width (last_size z) ≤ length targets) (sym same) h in
+    let others : step_nets (true && is_last (next ∷ more)) s (value_sizes stack) ≡ step_nets false s (value_sizes stack) = refl in
     omega (arith, assigned-fresh table targets (next ∷ more) made.0 made.1 few, here.fresh, rest, others)
 
 -- the targets of a left side are its bits

@@ -1,15 +1,16 @@
 -- The nets that are counted are those that items make.
 use Rattle.std.proofs.Common.{arith, ◌≡◌, ◌+◌, List, [], ◌∷◌}
 use Rattle.std.specs.Prelude.{None}
-use Rattle.bb_net.specs.Bits.{Entry}
+use Rattle.bb_base.specs.Variables.{Entry, bit_count}
 use Rattle.bb_parse.specs.declared.syntax.Module.{Module}
 use Rattle.bb_parse.specs.declared.syntax.Item.{Item}
 use Rattle.bb_parse.specs.declared.syntax.Item.TheVariants as item
-use Rattle.bb_elab.specs.Firsts.{first_answer}
-use Rattle.bb_elab.specs.Variables.{variables, bit_count}
-use Rattle.bb_elab.specs.Parts.{item_fault, item_nets, items_nets, bad_part, all_bits}
-use Rattle.bb_elab.specs.Making.{Work, item_made, items_made, work_of}
-use Rattle.bb_elab.proofs.Parted.{none-first, none-second}
+use Rattle.bb_fault.specs.Firsts.{first_answer}
+use Rattle.bb_scope.specs.Variables.{variables}
+use Rattle.bb_width.specs.Parts.{item_fault, item_nets, items_nets, bad_part, all_bits}
+use Rattle.bb_drive.specs.Work.{Work}
+use Rattle.bb_gates.specs.Making.{item_made, items_made, work_of}
+use Rattle.bb_fault.proofs.Parted.{none-first, none-second}
 use Rattle.bb_elab.proofs.Assigns.{assign-fresh, prim-fresh}
 use Rattle.bb_elab.proofs.Instances.{cell-fresh}
 

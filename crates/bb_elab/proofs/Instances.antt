@@ -5,35 +5,36 @@ use Rattle.std.specs.Option.{option_or}
 use Rattle.std.specs.List.{list_all}
 use Rattle.std.specs.Map.{lookup}
 use Rattle.std.specs.Str.{bytes_eq}
-use Rattle.bb_net.specs.declared.net.Op.{Op}
-use Rattle.bb_net.specs.declared.net.Op.TheVariants as op
-use Rattle.bb_net.specs.Bits.{Entry}
+use Rattle.bb_base.specs.declared.operator.Op.{Op}
+use Rattle.bb_base.specs.declared.operator.Op.TheVariants as op
+use Rattle.bb_base.specs.Variables.{Entry}
 use Rattle.bb_parse.specs.declared.syntax.Conns.{Conns}
 use Rattle.bb_parse.specs.declared.syntax.Conns.TheVariants.{Places, Pins}
 use Rattle.bb_parse.specs.declared.syntax.Step.{Step}
 use Rattle.bb_parse.specs.declared.syntax.Step.TheVariants as step
-use Rattle.bb_elab.specs.declared.fault.ElabFault.{ElabFault}
-use Rattle.bb_elab.specs.declared.fault.ElabFault.TheVariants.{BadPins}
-use Rattle.bb_elab.specs.declared.value.Bit.{Bit}
-use Rattle.bb_elab.specs.declared.cells.Body.{Body}
-use Rattle.bb_elab.specs.declared.cells.Body.TheVariants.{FlipFlop, Gate, SecondInverted, Choice}
-use Rattle.bb_elab.specs.Firsts.{first_answer, first_behind}
-use Rattle.bb_elab.specs.Names.{has_name}
-use Rattle.bb_elab.specs.Cells.{Kind, kinds, kind_of, Pin, is_plain, by_place, pins_of, is_known, is_repeated, is_given, is_right_out, are_right_pins, are_right_places}
-use Rattle.bb_elab.specs.Sizes.{width, last_size, expr_fault, terminal_nets}
-use Rattle.bb_elab.specs.Parts.{pin_fault, cell_fault, terms_nets, pins_nets, inner_nets, cell_nets}
-use Rattle.bb_elab.specs.Making.{Work, Outs, To, first_out, make, make_onto, last_value, steps_made, terminal_made, pins_made, nets_of, Read, out_of, out_net, driven_bits, register_made, all_nets, gate_made, select_made, each_choice, body_made, kind_made, cell_made}
-use Rattle.bb_elab.specs.Made.{sizes_of}
-use Rattle.bb_net.proofs.Lists.{length_map}
-use Rattle.bb_elab.proofs.Keys.{same_name}
-use Rattle.bb_elab.proofs.Parted.{both-first, both-second, none-first, none-second}
+use Rattle.bb_fault.specs.declared.fault.ElabFault.{ElabFault}
+use Rattle.bb_fault.specs.declared.fault.ElabFault.TheVariants.{BadPins}
+use Rattle.bb_gates.specs.declared.value.Bit.{Bit}
+use Rattle.bb_scope.specs.declared.cells.Body.{Body}
+use Rattle.bb_scope.specs.declared.cells.Body.TheVariants.{FlipFlop, Gate, SecondInverted, Choice}
+use Rattle.bb_fault.specs.Firsts.{first_answer, first_behind}
+use Rattle.bb_scope.specs.Names.{has_name}
+use Rattle.bb_scope.specs.Cells.{Kind, kinds, kind_of, Pin, is_plain, by_place, pins_of, is_known, is_repeated, is_given, is_right_out, are_right_pins, are_right_places}
+use Rattle.bb_width.specs.Sizes.{width, last_size, expr_fault, terminal_nets}
+use Rattle.bb_width.specs.Parts.{pin_fault, cell_fault, terms_nets, pins_nets, inner_nets, cell_nets}
+use Rattle.bb_drive.specs.Work.{Work, make, make_onto}
+use Rattle.bb_gates.specs.Making.{Outs, To, first_out, last_value, steps_made, terminal_made, pins_made, nets_of, Read, out_of, out_net, driven_bits, flip_flop_made, all_nets, gate_made, multiplexer_made, each_choice, body_made, kind_made, cell_made}
+use Rattle.bb_elab.specs.ValueSizes.{value_sizes}
+use Rattle.bb_base.proofs.Lists.{length_map}
+use Rattle.bb_fault.proofs.Keys.{same_name}
+use Rattle.bb_fault.proofs.Parted.{both-first, both-second, none-first, none-second}
 use Rattle.bb_elab.proofs.Operators.{width_is, grounded-length}
 use Rattle.bb_elab.proofs.Expressions.{ref-length, all-counted, terminal-fresh}
 use Rattle.bb_elab.proofs.Assigns.{fine-width, plain-nets}
 
 -- terminals
 
-last-width : (stack : List (List Bit)) → length (last_value stack) ≡ width (last_size (sizes_of stack))
+last-width : (stack : List (List Bit)) → length (last_value stack) ≡ width (last_size (value_sizes stack))
 last-width [] = refl
 last-width (a ∷ rest) = sym (width_is a)
 
@@ -121,9 +122,6 @@ some-target : (targets : List ℕ) → length targets ≡ 1 → wanting (first_o
 some-target [] h = cc
 some-target (t ∷ targets) h = refl
 
-open-out : (b : Bool) → ℕ
-open-out b = cond b 0 1
-
 out-wanting :
     (table : List Entry) (line : ℕ) (kind : Kind) (pins : List Pin) → list_all (is_right_out kind) pins ≡ true → first_answer (pin_fault table line) pins ≡ None
     → wanting (first_out (out_of table kind pins)) ≡ cond (is_given pins kind.out) 0 1
@@ -156,7 +154,7 @@ net-wanting (Some t) w = omega arith
 gate-fresh : (o : Op) (outs : Outs) (ins : List ℕ) (w : Work) → (gate_made o outs ins w).1.fresh ≡ w.fresh + wanting (first_out outs)
 gate-fresh o outs ins w = onto-wanting o ins (first_out outs) w
 
-register-fresh : (outs : Outs) (a b : List ℕ) (w : Work) → length a ≡ 1 → length b ≡ 1 → (register_made outs (a ∷ b ∷ []) w).1.fresh ≡ w.fresh + wanting (first_out outs)
+register-fresh : (outs : Outs) (a b : List ℕ) (w : Work) → length a ≡ 1 → length b ≡ 1 → (flip_flop_made outs (a ∷ b ∷ []) w).1.fresh ≡ w.fresh + wanting (first_out outs)
 register-fresh outs [] b w h k = cc
 register-fresh outs (c ∷ a) [] w h k = cc
 register-fresh outs (c ∷ a) (d ∷ b) w h k = net-wanting (first_out outs) w
@@ -170,7 +168,7 @@ one-choice c n (a ∷ []) (b ∷ ys) outs w h k =
     omega (arith, onto-wanting op.Or (w1.0 ∷ w2.0 ∷ []) (first_out outs) w2.1)
 one-choice c n (a ∷ x ∷ xs) (b ∷ ys) outs w h k = absurd (omega (arith, h))
 
-choice-fresh : (outs : Outs) (a b s : List ℕ) (w : Work) → length a ≡ 1 → length b ≡ 1 → (select_made outs (a ∷ b ∷ s ∷ []) w).1.fresh ≡ w.fresh + (3 + wanting (first_out outs))
+choice-fresh : (outs : Outs) (a b s : List ℕ) (w : Work) → length a ≡ 1 → length b ≡ 1 → (multiplexer_made outs (a ∷ b ∷ s ∷ []) w).1.fresh ≡ w.fresh + (3 + wanting (first_out outs))
 choice-fresh outs a b s w h k = let n = make op.Not s w in omega (arith, one-choice s n.0 b a outs n.1 k h)
 
 -- the table's rows

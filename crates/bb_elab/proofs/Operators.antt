@@ -1,21 +1,22 @@
 -- How many nets operators make.
 use Rattle.std.proofs.Common.{arith, ◌≡◌, ℕ, suc, ◌+◌, ◌*◌, ◌≤◌, min, List, [], ◌∷◌, ◌++◌, length, refl, ap, sym, ◌∙◌}
-use Rattle.bb_net.specs.declared.net.Op.{Op}
-use Rattle.bb_net.specs.declared.net.Op.TheVariants.{And, Or, Not}
-use Rattle.bb_elab.specs.declared.value.Bit.{Bit}
-use Rattle.bb_elab.specs.declared.value.Bit.TheVariants.{Net, Fixed}
-use Rattle.bb_elab.specs.Sizes.{width, of_nets}
-use Rattle.bb_elab.specs.Making.{Work, Outs, New, To, make, make_onto, drive, constant, grounded, each_alone, each_pair, each_choice, first_out, other_outs, as_value, inverted, joined_by, chosen}
-use Rattle.bb_elab.specs.Made.{size_of}
+use Rattle.bb_base.specs.declared.operator.Op.{Op}
+use Rattle.bb_base.specs.declared.operator.Op.TheVariants.{And, Or, Not}
+use Rattle.bb_gates.specs.declared.value.Bit.{Bit}
+use Rattle.bb_gates.specs.declared.value.Bit.TheVariants.{Net, Fixed}
+use Rattle.bb_width.specs.Sizes.{width, of_nets}
+use Rattle.bb_drive.specs.Work.{Work, make, make_onto, drive, constant}
+use Rattle.bb_gates.specs.Making.{Outs, New, To, grounded, each_alone, each_pair, each_choice, first_out, other_outs, as_value, inverted, joined_by, choice_between}
+use Rattle.bb_elab.specs.ValueSizes.{value_size}
 
 -- operands
 
-pub width_is : (bits : List Bit) → width (size_of bits) ≡ length bits
+pub width_is : (bits : List Bit) → width (value_size bits) ≡ length bits
 width_is [] = refl
 width_is (Net n ∷ bits) = let h = width_is bits in omega (arith, h)
 width_is (Fixed one ∷ bits) = let h = width_is bits in omega (arith, h)
 
-pub grounded-fresh : (bits : List Bit) (w : Work) → (grounded bits w).1.fresh ≡ w.fresh + (size_of bits).constants
+pub grounded-fresh : (bits : List Bit) (w : Work) → (grounded bits w).1.fresh ≡ w.fresh + (value_size bits).constants
 grounded-fresh [] w = omega arith
 grounded-fresh (Net n ∷ bits) w = grounded-fresh bits w
 grounded-fresh (Fixed one ∷ bits) w = let h = grounded-fresh bits (make (constant one) [] w).1 in omega (arith, h)
@@ -25,7 +26,7 @@ grounded-length [] w = refl
 grounded-length (Net n ∷ bits) w = ap suc (grounded-length bits w)
 grounded-length (Fixed one ∷ bits) w = ap suc (grounded-length bits (make (constant one) [] w).1)
 
-pub value-size : (nets : List ℕ) → size_of (as_value nets) ≡ of_nets (length nets)
+pub value-size : (nets : List ℕ) → value_size (as_value nets) ≡ of_nets (length nets)
 value-size [] = refl
 value-size (n ∷ nets) = ap (λ s. record { nets = suc s.nets; constants = s.constants }) (value-size nets)
 
@@ -97,21 +98,21 @@ choice-onto c n (a ∷ xs) (b ∷ ys) (t ∷ targets) w h =
 -- operators
 
 abbrev pub lesser : List Bit → List Bit → ℕ
-lesser a b = min (width (size_of a)) (width (size_of b))
+lesser a b = min (width (value_size a)) (width (value_size b))
 
-pub inverted-size : (outs : Outs) (a : List Bit) (w : Work) → size_of (inverted outs a w).0 ≡ of_nets (width (size_of a))
+pub inverted-size : (outs : Outs) (a : List Bit) (w : Work) → value_size (inverted outs a w).0 ≡ of_nets (width (value_size a))
 inverted-size outs a w =
     let ga = grounded a w in
     value-size (each_alone Not ga.0 outs ga.1).0 ∙ ap of_nets (alone-length Not ga.0 outs ga.1 ∙ (grounded-length a w ∙ sym (width_is a)))
 
-pub joined-size : (op : Op) (outs : Outs) (a b : List Bit) (w : Work) → size_of (joined_by op outs a b w).0 ≡ of_nets (lesser a b)
+pub joined-size : (op : Op) (outs : Outs) (a b : List Bit) (w : Work) → value_size (joined_by op outs a b w).0 ≡ of_nets (lesser a b)
 joined-size op outs a b w =
     let ga = grounded a w in
     let gb = grounded b ga.1 in
     let n : length (each_pair op ga.0 gb.0 outs gb.1).0 ≡ lesser a b = omega (arith, pair-length op ga.0 gb.0 outs gb.1, grounded-length a w, grounded-length b ga.1, width_is a, width_is b) in
     value-size (each_pair op ga.0 gb.0 outs gb.1).0 ∙ ap of_nets n
 
-pub chosen-size : (outs : Outs) (c a b : List Bit) (w : Work) → size_of (chosen outs c a b w).0 ≡ of_nets (lesser a b)
+pub chosen-size : (outs : Outs) (c a b : List Bit) (w : Work) → value_size (choice_between outs c a b w).0 ≡ of_nets (lesser a b)
 chosen-size outs c a b w =
     let gc = grounded c w in
     let ga = grounded a gc.1 in
@@ -121,17 +122,17 @@ chosen-size outs c a b w =
     omega (arith, choice-length gc.0 n.0 ga.0 gb.0 outs n.1, grounded-length a gc.1, grounded-length b ga.1, width_is a, width_is b) in
     value-size (each_choice gc.0 n.0 ga.0 gb.0 outs n.1).0 ∙ ap of_nets l
 
-pub inverted-fresh : (a : List Bit) (w : Work) → (inverted New a w).1.fresh ≡ w.fresh + ((size_of a).constants + width (size_of a))
+pub inverted-fresh : (a : List Bit) (w : Work) → (inverted New a w).1.fresh ≡ w.fresh + ((value_size a).constants + width (value_size a))
 inverted-fresh a w = let ga = grounded a w in omega (arith, grounded-fresh a w, alone-fresh Not ga.0 ga.1, grounded-length a w, width_is a)
 
-pub joined-fresh : (op : Op) (a b : List Bit) (w : Work) → (joined_by op New a b w).1.fresh ≡ w.fresh + ((size_of a).constants + (size_of b).constants + lesser a b)
+pub joined-fresh : (op : Op) (a b : List Bit) (w : Work) → (joined_by op New a b w).1.fresh ≡ w.fresh + ((value_size a).constants + (value_size b).constants + lesser a b)
 joined-fresh op a b w =
     let ga = grounded a w in
     let gb = grounded b ga.1 in
     omega (arith, grounded-fresh a w, grounded-fresh b ga.1, pair-fresh op ga.0 gb.0 gb.1, grounded-length a w, grounded-length b ga.1, width_is a, width_is b)
 
 pub chosen-fresh :
-    (c a b : List Bit) (w : Work) → (chosen New c a b w).1.fresh ≡ w.fresh + ((size_of c).constants + (size_of a).constants + (size_of b).constants + 1 + 2 * lesser a b + lesser a b)
+    (c a b : List Bit) (w : Work) → (choice_between New c a b w).1.fresh ≡ w.fresh + ((value_size c).constants + (value_size a).constants + (value_size b).constants + 1 + 2 * lesser a b + lesser a b)
 chosen-fresh c a b w =
     let gc = grounded c w in
     let ga = grounded a gc.1 in
@@ -139,13 +140,13 @@ chosen-fresh c a b w =
     let n = make Not gc.0 gb.1 in
     omega (arith, grounded-fresh c w, grounded-fresh a gc.1, grounded-fresh b ga.1, choice-fresh gc.0 n.0 ga.0 gb.0 n.1, grounded-length a gc.1, grounded-length b ga.1, width_is a, width_is b)
 
-pub inverted-onto : (a : List Bit) (targets : List ℕ) (w : Work) → width (size_of a) ≤ length targets → (inverted (To targets) a w).1.fresh ≡ w.fresh + ((size_of a).constants + 0)
+pub inverted-onto : (a : List Bit) (targets : List ℕ) (w : Work) → width (value_size a) ≤ length targets → (inverted (To targets) a w).1.fresh ≡ w.fresh + ((value_size a).constants + 0)
 inverted-onto a targets w h =
     let ga = grounded a w in
     let k = alone-onto Not ga.0 targets ga.1 (omega (arith, h, grounded-length a w, width_is a)) in
     omega (arith, grounded-fresh a w, k)
 
-pub joined-onto : (op : Op) (a b : List Bit) (targets : List ℕ) (w : Work) → lesser a b ≤ length targets → (joined_by op (To targets) a b w).1.fresh ≡ w.fresh + ((size_of a).constants + (size_of b).constants + 0)
+pub joined-onto : (op : Op) (a b : List Bit) (targets : List ℕ) (w : Work) → lesser a b ≤ length targets → (joined_by op (To targets) a b w).1.fresh ≡ w.fresh + ((value_size a).constants + (value_size b).constants + 0)
 joined-onto op a b targets w h =
     let ga = grounded a w in
     let gb = grounded b ga.1 in
@@ -154,7 +155,7 @@ joined-onto op a b targets w h =
 
 pub chosen-onto :
     (c a b : List Bit) (targets : List ℕ) (w : Work) → lesser a b ≤ length targets
-    → (chosen (To targets) c a b w).1.fresh ≡ w.fresh + ((size_of c).constants + (size_of a).constants + (size_of b).constants + 1 + 2 * lesser a b + 0)
+    → (choice_between (To targets) c a b w).1.fresh ≡ w.fresh + ((value_size c).constants + (value_size a).constants + (value_size b).constants + 1 + 2 * lesser a b + 0)
 chosen-onto c a b targets w h =
     let gc = grounded c w in
     let ga = grounded a gc.1 in

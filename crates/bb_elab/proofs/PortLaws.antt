@@ -1,18 +1,17 @@
 -- Variables of a sound module without a fault: names are names, ranges are in bounds, and ports stand first.
-use Rattle.std.proofs.Common.{arith, ◌≡◌, ℕ, ◌+◌, ◌-◌, ◌%◌, ◌<◌, ◌≤◌, ◌^◌, nat_lt, Bool, true, false, not, ◌&&◌, ◌||◌, cond, List, [], ◌∷◌, ◌++◌, map, length, refl, sym, ap, ◌∙◌, subst, fold, slice_get, append_assoc, append-nil, All}
+use Rattle.std.proofs.Common.{arith, ◌≡◌, ℕ, ◌+◌, ◌-◌, ◌<◌, ◌≤◌, ◌^◌, nat_lt, Bool, true, false, not, ◌&&◌, ◌||◌, cond, List, [], ◌∷◌, ◌++◌, map, length, refl, sym, ap, ◌∙◌, subst, fold, slice_get, append_assoc, append-nil, All}
 use Rattle.std.proofs.lemmas.Bool.Decides.{nat_tests}
-use Rattle.std.proofs.lemmas.Fmt.{decimal_by_steps, length-decimal-le}
 use Rattle.std.proofs.lemmas.List.Elements.{All-from_recursion}
 use Rattle.std.proofs.lemmas.List.Folds.{list_any-append}
 use Rattle.std.proofs.lemmas.List.Sums.{fold-append}
-use Rattle.std.specs.Prelude.{Option, Some, None, find, flat_map, filter, decimal}
+use Rattle.std.specs.Prelude.{Option, Some, None, find, flat_map, filter}
 use Rattle.std.specs.Option.{option_or, option_map}
 use Rattle.std.specs.List.{AllByRecursion, range_with_len}
 use Rattle.std.specs.Str.{bytes_eq}
-use Rattle.bb_net.specs.Bits.{Entry, IsEntry, IsRange, is_port, range_width}
-use Rattle.bb_net.specs.declared.variable.Role.TheVariants.{Wire}
-use Rattle.bb_net.specs.Name.{IsName, IsNameByte}
-use Rattle.bb_net.proofs.Lists.{all_join, all_map_back, map_join, get_front, get_back}
+use Rattle.bb_base.specs.Variables.{Entry, IsEntry, IsRange, is_port, range_width, bit_count}
+use Rattle.bb_base.specs.declared.variable.Role.TheVariants.{Wire}
+use Rattle.bb_base.specs.Name.{IsName}
+use Rattle.bb_base.proofs.Lists.{all_join, all_map_back, map_join, get_front, get_back}
 use Rattle.bb_parse.specs.declared.syntax.Module.{Module}
 use Rattle.bb_parse.specs.declared.syntax.Header.{Header}
 use Rattle.bb_parse.specs.declared.syntax.Header.TheVariants.{Plain, Ansi}
@@ -24,21 +23,25 @@ use Rattle.bb_parse.specs.declared.syntax.Decl.{Decl}
 use Rattle.bb_parse.specs.declared.syntax.Step.{Step}
 use Rattle.bb_parse.specs.declared.syntax.Step.TheVariants as step
 use Rattle.bb_parse.specs.Sound.{IsSoundModule, IsSoundHeader, IsSoundItem, IsSoundConns, IsSoundPin, IsSoundValue, IsSoundExpr, IsSoundStep, IsSoundRef, IsSoundDecl}
-use Rattle.bb_elab.specs.declared.fault.ElabFault.TheVariants.{BadPort}
-use Rattle.bb_elab.specs.Firsts.{on_some, first_behind}
-use Rattle.bb_elab.specs.Names.{step_names, steps_names, pin_names, conns_names, item_names, header_names, mentioned, has_name, with_name, variable_names, reserved}
-use Rattle.bb_elab.specs.Declarations.{header_decls, item_decls, declarations, is_direction, has_direction, is_odd_port, is_stray, bad_port, redeclared}
-use Rattle.bb_elab.specs.Variables.{role_of, range_of, entry_of, variables, bit_count, too_many}
-use Rattle.bb_elab.specs.Parts.{bad_part, all_bits, too_many_bits, too_many_nets}
-use Rattle.bb_elab.specs.Cells.{unknown_cell}
-use Rattle.bb_elab.specs.Text.{name_fault, part_fault, text_fault}
-use Rattle.bb_elab.specs.Nets.{made_count, is_variable, made_name, made_names, made_variable}
-use Rattle.bb_elab.specs.Assembling.{ArePortsFirst}
+use Rattle.bb_fault.specs.declared.fault.ElabFault.TheVariants.{BadPort}
+use Rattle.bb_fault.specs.Firsts.{on_some, first_behind}
+use Rattle.bb_scope.specs.Names.{step_names, steps_names, pin_names, conns_names, item_names, header_names, mentioned, has_name, with_new_name, variable_names, reserved}
+use Rattle.bb_scope.specs.Declarations.{header_decls, item_decls, declarations, is_direction, has_direction, is_odd_port, is_stray, bad_port, redeclared}
+use Rattle.bb_scope.specs.Variables.{declared_role, declared_range, entry_of, variables}
+use Rattle.bb_fault.specs.Limits.{too_many}
+use Rattle.bb_width.specs.Parts.{bad_part, all_bits, too_many_bits, too_many_nets}
+use Rattle.bb_scope.specs.Cells.{unknown_cell}
+use Rattle.bb_width.specs.Text.{name_fault, part_fault, text_fault}
+use Rattle.bb_drive.specs.Nets.{made_count, is_variable, made_names, made_variable}
+use Rattle.bb_base.specs.OwnNames.{made_name}
+use Rattle.bb_assemble.specs.Assembling.{ArePortsFirst}
 use Rattle.bb_elab.specs.Outcome.{variables_in, work_in}
 use Rattle.bb_elab.proofs.Counting.{module-fresh}
-use Rattle.bb_elab.proofs.Keys.{same_name, name_itself}
-use Rattle.bb_elab.proofs.AllItems.{at_item, all_flat, all_take, all_filter, all_range}
-use Rattle.bb_elab.proofs.Parted.{none-first, none-second}
+use Rattle.bb_fault.proofs.Keys.{same_name, name_itself}
+use Rattle.bb_gates.proofs.AllItems.{at_item, all_flat, all_take, all_filter, all_range}
+use Rattle.bb_fault.proofs.Parted.{none-first, none-second}
+use Rattle.bb_base.proofs.BooleanLemmas.{or_true}
+use Rattle.bb_base.proofs.OwnNameLemmas.{made_is_name}
 
 -- names -----------------------------------------------------------------
 
@@ -70,7 +73,7 @@ item_named : (i : Item) → IsSoundItem i → AllByRecursion IsName (item_names 
 item_named (item.Decl d) s = (s.name, tt)
 item_named (item.Assign line left right) s =
     all_join IsName (map (λ r. r.name) left) (steps_names right) (all_map_back IsName IsSoundRef (λ r. r.name) (λ r s. s.name) left s.0) (steps_named right s.1)
-item_named (item.Prim line op terms) s = all_flat IsName IsSoundExpr steps_names steps_named terms s
+item_named (item.Prim line op terms) s = all_flat IsName IsSoundExpr steps_names steps_named terms s.1
 item_named (item.Cell line cell conns) s = conns_named conns s.1
 
 header_named : (h : Header) → IsSoundHeader h → AllByRecursion IsName (header_names h)
@@ -82,9 +85,9 @@ mentioned_named : (m : Module) → IsSoundModule m → AllByRecursion IsName (me
 mentioned_named m s = all_join IsName (header_names m.header) (flat_map item_names m.items) (header_named m.header s.header) (all_flat IsName IsSoundItem item_names item_named m.items s.items)
 
 -- each name once: what holds of all names still does
-with_all : (P : List ℕ → Type 0) (names more : List (List ℕ)) → AllByRecursion P names → AllByRecursion P more → AllByRecursion P (fold with_name names more)
+with_all : (P : List ℕ → Type 0) (names more : List (List ℕ)) → AllByRecursion P names → AllByRecursion P more → AllByRecursion P (fold with_new_name names more)
 with_all P names [] all rest = all
-with_all P names (m ∷ more) all rest = with_all P (with_name names m) more (go (has_name names m)) rest.1
+with_all P names (m ∷ more) all rest = with_all P (with_new_name names m) more (go (has_name names m)) rest.1
   where
     go : (b : Bool) → AllByRecursion P (cond b names (names ++ m ∷ []))
     go true = all
@@ -107,11 +110,11 @@ all_declared : (m : Module) → IsSoundModule m → AllByRecursion IsSoundDecl (
 all_declared m s = all_join IsSoundDecl (header_decls m.header) (flat_map item_decls m.items) (header_declared m.header s.header) (all_flat IsSoundDecl IsSoundItem item_decls item_declared m.items s.items)
 
 -- so the range of each name is in bounds
-range_sound : (decls : List Decl) (name : List ℕ) → AllByRecursion IsSoundDecl decls → IsRange (range_of decls name)
+range_sound : (decls : List Decl) (name : List ℕ) → AllByRecursion IsSoundDecl decls → IsRange (declared_range decls name)
 range_sound [] name all = tt
 range_sound (d ∷ decls) name all = go (bytes_eq name d.name) (range_sound decls name all.1)
   where
-    go : (b : Bool) → IsRange (range_of decls name) → IsRange (on_some (cond b (Some d) (find (λ d. bytes_eq name d.name) decls)) None (λ d. d.range))
+    go : (b : Bool) → IsRange (declared_range decls name) → IsRange (on_some (cond b (Some d) (find (λ d. bytes_eq name d.name) decls)) None (λ d. d.range))
     go true rest = all.0.range
     go false rest = rest
 
@@ -122,20 +125,6 @@ entries_sound m s =
     (with_all IsName [] (mentioned m) tt (mentioned_named m s))
 
 -- made variables ----------------------------------------------------------
-
--- the bytes of a number are digits
-pub decimal_plain : (k : ℕ) → k < 2 ^ 64 → AllByRecursion IsNameByte (decimal k)
-decimal_plain k small =
-    decimal_by_steps (λ n ds. AllByRecursion IsNameByte ds) (λ n one. ((omega (arith, one), omega (arith, one)), tt))
-    (λ n ds ten all. all_join IsNameByte ds ((48 + n % 10) ∷ []) all ((omega arith, omega arith), tt)) k small
-
--- a made name is a name
-pub made_is_name : (k : ℕ) → k < 2 ^ 64 → IsName (made_name k)
-made_is_name k small = record {
-  some = omega arith;
-  short = omega (arith, length-decimal-le 20 k (omega arith) (omega (arith, small)) small);
-  plain = All-from_recursion IsNameByte (made_name k) ((omega arith, omega arith), ((omega arith, omega arith), ((omega arith, omega arith), ((omega arith, omega arith), decimal_plain k small))));
-}
 
 -- so many bits at most
 few : (own : Bool) (count : ℕ) → too_many own count ≡ None → count ≤ 134217728
@@ -197,11 +186,11 @@ all_entries m s fine =
 -- ports -------------------------------------------------------------------
 
 -- a name is a port where some declaration gives it a direction
-port_of : (decls : List Decl) (name : List ℕ) → is_port (role_of decls name) ≡ has_direction decls name
+port_of : (decls : List Decl) (name : List ℕ) → is_port (declared_role decls name) ≡ has_direction decls name
 port_of [] name = refl
 port_of (d ∷ decls) name = go (is_port d.role) refl (bytes_eq name d.name) (port_of decls name)
   where
-    go : (p : Bool) → is_port d.role ≡ p → (b : Bool) → is_port (role_of decls name) ≡ has_direction decls name
+    go : (p : Bool) → is_port d.role ≡ p → (b : Bool) → is_port (declared_role decls name) ≡ has_direction decls name
         → is_port (on_some (cond (p && b) (Some d) (find (λ d. is_direction d && bytes_eq name d.name) decls)) Wire (λ d. d.role)) ≡ ((p && b) || has_direction decls name)
     go true e true rest = e
     go true e false rest = rest
@@ -232,19 +221,15 @@ in_header header (d ∷ decls) name none some = go (is_direction d) (bytes_eq na
     go false b e h k none some rest = rest none some
 
 -- a name that stands still stands, and one that is added does
-with_kept : (names : List (List ℕ)) (m name : List ℕ) → has_name names name ≡ true → has_name (with_name names m) name ≡ true
+with_kept : (names : List (List ℕ)) (m name : List ℕ) → has_name names name ≡ true → has_name (with_new_name names m) name ≡ true
 with_kept names m name h = go (has_name names m)
   where
     go : (b : Bool) → has_name (cond b names (names ++ m ∷ [])) name ≡ true
     go true = h
     go false = list_any-append (bytes_eq name) names (m ∷ []) ∙ ap (λ b. b || has_name (m ∷ []) name) h
 
-pub or_true : (b : Bool) → (b || true) ≡ true
-or_true true = refl
-or_true false = refl
-
 -- a name that is added stands
-with_added : (names : List (List ℕ)) (m : List ℕ) → has_name (with_name names m) m ≡ true
+with_added : (names : List (List ℕ)) (m : List ℕ) → has_name (with_new_name names m) m ≡ true
 with_added names m = go (has_name names m) refl
   where
     go : (b : Bool) → has_name names m ≡ b → has_name (cond b names (names ++ m ∷ [])) m ≡ true
@@ -252,23 +237,23 @@ with_added names m = go (has_name names m) refl
     go false e = list_any-append (bytes_eq m) names (m ∷ []) ∙ (ap (λ b. has_name names m || (b || false)) (name_itself m) ∙ or_true (has_name names m))
 
 -- the same for names that are added in turn
-all_kept : (names more : List (List ℕ)) (name : List ℕ) → has_name names name ≡ true → has_name (fold with_name names more) name ≡ true
+all_kept : (names more : List (List ℕ)) (name : List ℕ) → has_name names name ≡ true → has_name (fold with_new_name names more) name ≡ true
 all_kept names [] name h = h
-all_kept names (m ∷ more) name h = all_kept (with_name names m) more name (with_kept names m name h)
+all_kept names (m ∷ more) name h = all_kept (with_new_name names m) more name (with_kept names m name h)
 
-pub all_added : (names more : List (List ℕ)) (name : List ℕ) → has_name more name ≡ true → has_name (fold with_name names more) name ≡ true
+pub all_added : (names more : List (List ℕ)) (name : List ℕ) → has_name more name ≡ true → has_name (fold with_new_name names more) name ≡ true
 all_added names [] name h = absurd (cc h)
-all_added names (m ∷ more) name h = go (bytes_eq name m) refl h (all_added (with_name names m) more name)
+all_added names (m ∷ more) name h = go (bytes_eq name m) refl h (all_added (with_new_name names m) more name)
   where
-    go : (b : Bool) → bytes_eq name m ≡ b → (b || has_name more name) ≡ true → (has_name more name ≡ true → has_name (fold with_name (with_name names m) more) name ≡ true)
-        → has_name (fold with_name (with_name names m) more) name ≡ true
-    go true e h rest = all_kept (with_name names m) more name (subst (λ n. has_name (with_name names m) n ≡ true) (sym (same_name name m e)) (with_added names m))
+    go : (b : Bool) → bytes_eq name m ≡ b → (b || has_name more name) ≡ true → (has_name more name ≡ true → has_name (fold with_new_name (with_new_name names m) more) name ≡ true)
+        → has_name (fold with_new_name (with_new_name names m) more) name ≡ true
+    go true e h rest = all_kept (with_new_name names m) more name (subst (λ n. has_name (with_new_name names m) n ≡ true) (sym (same_name name m e)) (with_added names m))
     go false e h rest = rest h
 
 -- the names behind others are new
 record Behind (names more : List (List ℕ)) : Type 0 where
   extra : List (List ℕ)
-  whole : fold with_name names more ≡ names ++ extra
+  whole : fold with_new_name names more ≡ names ++ extra
   new : AllByRecursion (λ name. has_name names name ≡ false) extra
 
 -- what is not among names and one more is not among them
@@ -285,10 +270,10 @@ behind names [] = record { extra = []; whole = sym (append-nil names); new = tt 
 behind names (m ∷ more) = go (has_name names m) refl (behind names more) (behind (names ++ m ∷ []) more)
   where
     go : (b : Bool) → has_name names m ≡ b → Behind names more → Behind (names ++ m ∷ []) more → Behind names (m ∷ more)
-    go true e rest other = record { extra = rest.extra; whole = ap (λ b. fold with_name (cond b names (names ++ m ∷ [])) more) e ∙ rest.whole; new = rest.new }
+    go true e rest other = record { extra = rest.extra; whole = ap (λ b. fold with_new_name (cond b names (names ++ m ∷ [])) more) e ∙ rest.whole; new = rest.new }
     go false e other rest = record {
       extra = m ∷ rest.extra;
-      whole = ap (λ b. fold with_name (cond b names (names ++ m ∷ [])) more) e ∙ (rest.whole ∙ append_assoc names (m ∷ []) rest.extra);
+      whole = ap (λ b. fold with_new_name (cond b names (names ++ m ∷ [])) more) e ∙ (rest.whole ∙ append_assoc names (m ∷ []) rest.extra);
       new = (e, fewer names m rest.extra rest.new);
     }
 
@@ -327,7 +312,7 @@ ports_stand_first m fine = subst ArePortsFirst whole (in_front (map (entry_of de
     header = header_names m.header
 
     front : List (List ℕ)
-    front = fold with_name [] header
+    front = fold with_new_name [] header
 
     rest : Behind front (flat_map item_names m.items)
     rest = behind front (flat_map item_names m.items)
@@ -345,7 +330,7 @@ ports_stand_first m fine = subst ArePortsFirst whole (in_front (map (entry_of de
     no_stray = none_mapped (λ d. d.name) (find (is_stray header) decls) (none-second (first_behind (is_odd_port decls) [] header) (option_map (λ d. d.name) (find (is_stray header) decls)) parts)
 
     names : variable_names m ≡ front ++ rest.extra
-    names = fold-append with_name [] header (flat_map item_names m.items) ∙ rest.whole
+    names = fold-append with_new_name [] header (flat_map item_names m.items) ∙ rest.whole
 
     whole : map (entry_of decls) front ++ (map (entry_of decls) rest.extra ++ made) ≡ variables_in m
     whole = sym (append_assoc (map (entry_of decls) front) (map (entry_of decls) rest.extra) made) ∙ ap (λ es. es ++ made) (sym (map_join (entry_of decls) front rest.extra) ∙ ap (map (entry_of decls)) (sym names))
@@ -354,7 +339,7 @@ ports_stand_first m fine = subst ArePortsFirst whole (in_front (map (entry_of de
     ports = all_map_back IsPort (λ name. has_direction decls name ≡ true) (entry_of decls) (λ name h. port_of decls name ∙ h) front
         (with_all (λ name. has_direction decls name ≡ true) [] header tt (directed decls [] header even))
 
-    no_direction : (name : List ℕ) → has_name front name ≡ false → is_port (role_of decls name) ≡ false
+    no_direction : (name : List ℕ) → has_name front name ≡ false → is_port (declared_role decls name) ≡ false
     no_direction name new = port_of decls name ∙ go (has_direction decls name) refl
       where
         go : (b : Bool) → has_direction decls name ≡ b → b ≡ false

@@ -1,12 +1,12 @@
 -- Worked modules, computed from the definition.
 use Rattle.std.proofs.Common.{arith, ap, sym, subst}
 use Rattle.std.specs.Prelude.{◌≡◌, ◌≢◌, ℕ, zero, suc, ◌<◌, Bool, ◌&&◌, List, [], ◌∷◌, ◌++◌, codes, Option, Some, None, refl, true, false, AllPairs, slice_get}
-use Rattle.bb_net.specs.declared.net.Op.{Op}
-use Rattle.bb_net.specs.declared.net.Op.TheVariants as op
-use Rattle.bb_net.specs.declared.variable.Role.{Role}
-use Rattle.bb_net.specs.declared.variable.Role.TheVariants.{Input, Output, Wire}
-use Rattle.bb_net.specs.Net.{Gate, Netlist}
-use Rattle.bb_net.specs.Order.{is_within, IsStuck, IsFirstStuck}
+use Rattle.bb_base.specs.declared.operator.Op.{Op}
+use Rattle.bb_base.specs.declared.operator.Op.TheVariants as op
+use Rattle.bb_base.specs.declared.variable.Role.{Role}
+use Rattle.bb_base.specs.declared.variable.Role.TheVariants.{Input, Output, Wire}
+use Rattle.bb_netlist.specs.Net.{Gate, Netlist}
+use Rattle.bb_netlist.specs.Order.{is_within, IsStuck, IsFirstStuck}
 use Rattle.bb_parse.specs.declared.syntax.Module.{Module}
 use Rattle.bb_parse.specs.declared.syntax.Header.TheVariants.{Plain, Ansi}
 use Rattle.bb_parse.specs.declared.syntax.Item.{Item}
@@ -15,9 +15,9 @@ use Rattle.bb_parse.specs.declared.syntax.Conns.TheVariants.{Places, Pins}
 use Rattle.bb_parse.specs.declared.syntax.Decl.{Decl}
 use Rattle.bb_parse.specs.declared.syntax.Step.{Step}
 use Rattle.bb_parse.specs.declared.syntax.Step.TheVariants as step
-use Rattle.bb_elab.specs.declared.fault.ElabFault.{ElabFault}
-use Rattle.bb_elab.specs.declared.fault.ElabFault.TheVariants.{Reserved, Redeclared, BadPort, TooMany, UnknownCell, BadPins, BadSelect, WidthDiffers, TooWide, TwoDrivers, Undriven, ClockNotInput, TwoClocks, ClockAsData, Loop}
-use Rattle.bb_elab.specs.Text.{text_fault}
+use Rattle.bb_fault.specs.declared.fault.ElabFault.{ElabFault}
+use Rattle.bb_fault.specs.declared.fault.ElabFault.TheVariants.{Reserved, Redeclared, BadPort, TooMany, UnknownCell, BadPins, BadSelect, WidthDiffers, TooWide, TwoDrivers, Undriven, ClockNotInput, TwoClocks, ClockAsData, Loop}
+use Rattle.bb_width.specs.Text.{text_fault}
 use Rattle.bb_elab.specs.Outcome.{IsLooped, first_fault, denoted}
 
 abbrev declared : ℕ → Role → Option (ℕ × ℕ) → List ℕ → Decl

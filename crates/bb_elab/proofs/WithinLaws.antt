@@ -4,10 +4,10 @@ use Rattle.std.proofs.lemmas.List.Elements.{All-from_recursion}
 use Rattle.std.specs.Prelude.{Option, Some, None, flat_map, zip}
 use Rattle.std.specs.List.{AllByRecursion}
 use Rattle.std.specs.Str.{bytes_eq}
-use Rattle.bb_net.specs.declared.net.Op.{Op}
-use Rattle.bb_net.specs.declared.net.Op.TheVariants.{Not}
-use Rattle.bb_net.specs.Bits.{Entry}
-use Rattle.bb_net.proofs.Lists.{all_front, all_back, all_join, all_map}
+use Rattle.bb_base.specs.declared.operator.Op.{Op}
+use Rattle.bb_base.specs.declared.operator.Op.TheVariants.{Not}
+use Rattle.bb_base.specs.Variables.{Entry, bit_count}
+use Rattle.bb_base.proofs.Lists.{all_front, all_back, all_join, all_map, all_parts}
 use Rattle.bb_parse.specs.declared.syntax.Module.{Module}
 use Rattle.bb_parse.specs.declared.syntax.Decl.{Decl}
 use Rattle.bb_parse.specs.declared.syntax.Item.{Item}
@@ -16,21 +16,24 @@ use Rattle.bb_parse.specs.declared.syntax.Conns.{Conns}
 use Rattle.bb_parse.specs.declared.syntax.Conns.TheVariants.{Places, Pins}
 use Rattle.bb_parse.specs.declared.syntax.Ref.{Ref}
 use Rattle.bb_parse.specs.declared.syntax.Step.{Step}
-use Rattle.bb_elab.specs.declared.cells.Body.{Body}
-use Rattle.bb_elab.specs.declared.cells.Body.TheVariants.{FlipFlop, Gate, SecondInverted, Choice}
-use Rattle.bb_elab.specs.Names.{steps_names, pin_names, conns_names, item_names, header_names, mentioned, has_name, variable_names}
-use Rattle.bb_elab.specs.Declarations.{declarations}
-use Rattle.bb_elab.specs.Variables.{entry_of, variables, bit_count}
-use Rattle.bb_elab.specs.Cells.{Kind, kind_of, Pin, pins_of}
-use Rattle.bb_elab.specs.Nets.{is_variable}
-use Rattle.bb_elab.specs.Within.{IsGateWithin, IsFlopWithin, IsWithin}
+use Rattle.bb_scope.specs.declared.cells.Body.{Body}
+use Rattle.bb_scope.specs.declared.cells.Body.TheVariants.{FlipFlop, Gate, SecondInverted, Choice}
+use Rattle.bb_scope.specs.Names.{steps_names, pin_names, conns_names, item_names, header_names, mentioned, has_name, variable_names}
+use Rattle.bb_scope.specs.Declarations.{declarations}
+use Rattle.bb_scope.specs.Variables.{entry_of, variables}
+use Rattle.bb_scope.specs.Cells.{Kind, kind_of, Pin, pins_of}
+use Rattle.bb_drive.specs.Nets.{is_variable}
+use Rattle.bb_drive.specs.Within.{IsGateWithin, IsFlopWithin, IsWithin}
 use Rattle.bb_elab.specs.Outcome.{work_in}
-use Rattle.bb_elab.specs.Making.{Work, Outs, To, Read, make, first_out, ref_bits, terminal_made, driven_bits, pins_made, nets_of, out_of, out_net, register_made, all_nets, gate_made, second_inverted, select_made, body_made, kind_made, cell_made, item_made, items_made}
-use Rattle.bb_elab.proofs.Keys.{name_itself}
-use Rattle.bb_elab.proofs.PortLaws.{all_added, or_true}
-use Rattle.bb_elab.proofs.AllItems.{all_flat, flat_each}
-use Rattle.bb_elab.proofs.WithinGates.{AreBelow, AreOutsBelow, IsBelow, IsDone, IsInside, IsOutBelow, Keeps, each-keeps, first_below, make-keeps, nets_more, new-keeps, onto-keeps, outs_more}
-use Rattle.bb_elab.proofs.WithinSteps.{AreKnown, IsKnown, assigned-keeps, driven_below, prim-keeps, ref_below, terminal-keeps}
+use Rattle.bb_drive.specs.Work.{Work, make}
+use Rattle.bb_gates.specs.Making.{Outs, To, Read, first_out, terminal_made, driven_bits, pins_made, nets_of, out_of, out_net, flip_flop_made, all_nets, gate_made, second_inverted, multiplexer_made, body_made, kind_made, cell_made, item_made, items_made}
+use Rattle.bb_scope.specs.References.{ref_bits}
+use Rattle.bb_fault.proofs.Keys.{name_itself}
+use Rattle.bb_elab.proofs.PortLaws.{all_added}
+use Rattle.bb_base.proofs.BooleanLemmas.{or_true}
+use Rattle.bb_gates.proofs.AllItems.{all_flat}
+use Rattle.bb_gates.proofs.WithinGates.{AreBelow, AreOutsBelow, IsBelow, IsDone, IsInside, IsOutBelow, Keeps, each-keeps, first_below, make-keeps, nets_more, new-keeps, onto-keeps, outs_more}
+use Rattle.bb_gates.proofs.WithinSteps.{AreKnown, IsKnown, assigned-keeps, driven_below, prim-keeps, ref_below, terminal-keeps}
 
 -- cells ---------------------------------------------------------------------------
 
@@ -91,7 +94,7 @@ nothing : {A : Type 0} (a : A) (w : Work) → IsInside w → Keeps IsDone w (a, 
 nothing a w is = record { grows = omega arith; value = tt; inside = is }
 
 -- the bodies of cells
-register-keeps : (outs : Outs) (ins : List (List ℕ)) (w : Work) → IsInside w → AreOutsBelow w.fresh outs → AreListsBelow w.fresh ins → Keeps IsDone w (register_made outs ins w)
+register-keeps : (outs : Outs) (ins : List (List ℕ)) (w : Work) → IsInside w → AreOutsBelow w.fresh outs → AreListsBelow w.fresh ins → Keeps IsDone w (flip_flop_made outs ins w)
 register-keeps outs [] w is out all = nothing [] w is
 register-keeps outs ([] ∷ ins) w is out all = nothing [] w is
 register-keeps outs ((k ∷ more) ∷ []) w is out all = nothing [] w is
@@ -129,7 +132,7 @@ second-keeps op outs (x ∷ y ∷ others) w is out all =
     let b = gate-keeps op outs (x ++ n ∷ []) v a.inside (outs_more w.fresh v.fresh outs a.grows out) (all_join (λ m. m < v.fresh) x (n ∷ []) (nets_more w.fresh v.fresh x a.grows all.0) (a.value, tt)) in
     record { grows = omega (arith, a.grows, b.grows); value = tt; inside = b.inside }
 
-select-keeps : (outs : Outs) (ins : List (List ℕ)) (w : Work) → IsInside w → AreOutsBelow w.fresh outs → AreListsBelow w.fresh ins → Keeps IsDone w (select_made outs ins w)
+select-keeps : (outs : Outs) (ins : List (List ℕ)) (w : Work) → IsInside w → AreOutsBelow w.fresh outs → AreListsBelow w.fresh ins → Keeps IsDone w (multiplexer_made outs ins w)
 select-keeps outs [] w is out all = nothing [] w is
 select-keeps outs (x ∷ []) w is out all = nothing [] w is
 select-keeps outs (x ∷ y ∷ []) w is out all = nothing [] w is
@@ -171,8 +174,8 @@ zip_known table (p ∷ places) [] known = tt
 zip_known table (p ∷ places) (e ∷ terms) known = (known.0, zip_known table places terms known.1)
 
 pins_known : (table : List Entry) (kind : Kind) (conns : Conns) → AreKnown table (conns_names conns) → AllByRecursion (IsPinKnown table) (pins_of kind conns)
-pins_known table kind (Places terms) known = zip_known table kind.places terms (flat_each (IsKnown table) steps_names terms known)
-pins_known table kind (Pins pins) known = flat_each (IsKnown table) (λ p. pin_names p.1) pins known
+pins_known table kind (Places terms) known = zip_known table kind.places terms (all_parts (IsKnown table) steps_names terms known)
+pins_known table kind (Pins pins) known = all_parts (IsKnown table) (λ p. pin_names p.1) pins known
 
 cell-keeps : (table : List Entry) (kind : Option Kind) (conns : Conns) (w : Work) → IsInside w → bit_count table ≤ w.fresh → AreKnown table (conns_names conns) → Keeps IsDone w (cell_made table kind conns w)
 cell-keeps table None conns w is base known = nothing [] w is
@@ -188,7 +191,7 @@ item-keeps table (item.Assign line left right) w is base known =
     let targets = flat_map (ref_bits table) left in
     let below = all_flat (λ n. n < bit_count table) (λ (r : Ref). IsKnown table r.name) (ref_bits table) (ref_below table) left refs in
     assigned-keeps table targets right [] w is base (nets_more (bit_count table) w.fresh targets base below) (all_back (IsKnown table) (map (λ r. r.name) left) (steps_names right) known) tt
-item-keeps table (item.Prim line op terms) w is base known = prim-keeps table op terms w is base (flat_each (IsKnown table) steps_names terms known)
+item-keeps table (item.Prim line op terms) w is base known = prim-keeps table op terms w is base (all_parts (IsKnown table) steps_names terms known)
 item-keeps table (item.Cell line cell conns) w is base known = cell-keeps table (kind_of cell) conns w is base known
 
 items-keep : (table : List Entry) (items : List Item) (w : Work) → IsInside w → bit_count table ≤ w.fresh → AreKnown table (flat_map item_names items) → IsInside (items_made table items w)

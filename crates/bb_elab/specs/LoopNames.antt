@@ -1,10 +1,11 @@
 -- The fault of a loop, by the names of a named netlist.
+-- (No outcome rests on these: they serve contracts of inner calls and proofs.)
 use Rattle.std.specs.Prelude.{◌≡◌, ℕ, ◌^◌, ◌-◌, min, List, [], ◌∷◌, length, Option, Some, None}
-use Rattle.bb_net.specs.Bits.{Bit}
+use Rattle.bb_base.specs.Variables.{Bit}
 use Rattle.bb_net.specs.Named.{Named, net_text}
-use Rattle.bb_net.specs.Order.{IsLoop}
-use Rattle.bb_elab.specs.declared.fault.ElabFault.{ElabFault}
-use Rattle.bb_elab.specs.declared.fault.ElabFault.TheVariants.{Loop}
+use Rattle.bb_netlist.specs.Order.{IsLoop}
+use Rattle.bb_fault.specs.declared.fault.ElabFault.{ElabFault}
+use Rattle.bb_fault.specs.declared.fault.ElabFault.TheVariants.{Loop}
 
 -- the fault of a loop of so many nets, where this is how texts name its first net
 abbrev pub loop_at : Bit → ℕ → ElabFault

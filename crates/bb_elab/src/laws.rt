@@ -3,10 +3,10 @@
 ghost use Rattle.std.specs.Prelude.{◌≡◌, Bool, None, Result};
 ghost use Rattle.bb_net.specs.Named.{Named};
 ghost use Rattle.bb_parse.specs.declared.syntax.Module.{Module as ModuleValue};
-ghost use Rattle.bb_elab.specs.declared.fault.ElabFault.{ElabFault};
-ghost use Rattle.bb_elab.specs.Variables.{variables};
-ghost use Rattle.bb_elab.specs.Parts.{bad_part, all_bits};
-ghost use Rattle.bb_elab.specs.Making.{work_of};
+ghost use Rattle.bb_fault.specs.declared.fault.ElabFault.{ElabFault};
+ghost use Rattle.bb_scope.specs.Variables.{variables};
+ghost use Rattle.bb_width.specs.Parts.{bad_part, all_bits};
+ghost use Rattle.bb_gates.specs.Making.{work_of};
 ghost use Rattle.bb_elab.specs.Outcome.{IsOutcome};
 
 /// The bits that are counted before any gate is made are those of the variables and the nets that the items then make.

@@ -7,38 +7,10 @@
 //!   any gate is made. The nets that it counts are those that the gates then made have.
 #![tactic(auto)]
 
-mod assemble;
-mod bitwise;
-mod cell_gates;
-mod cells;
-mod clock;
-mod drivers;
-mod fault;
-mod items;
 mod laws;
-mod marks;
-mod nets;
-mod numbers;
-mod origins;
 mod outcome;
-mod parts;
-mod pins;
-mod ports;
-mod prims;
-mod references;
-mod said;
-mod scope;
-mod sizes;
-mod steps;
-mod table;
-#[cfg(test)]
-mod tests;
-mod text;
-mod uses;
-mod value;
-mod work;
 
-pub use fault::ElabFault;
+pub use bb_fault::ElabFault;
+pub use bb_width::text_fault;
 pub use laws::{counted_nets_are_made, one_outcome};
 pub use outcome::elaborate;
-pub use text::text_fault;

@@ -1,29 +1,30 @@
 //! Elaboration: the netlist that a module denotes, or its first fault.
 
 ghost use Rattle.std.specs.Prelude.{◌≡◌, ◌≢◌, ◌<◌, IfOk, IfErr, OnOk, Ok, Err, None, Some, All, flat_map, length};
-ghost use Rattle.bb_net.specs.Bits.{IsEntry};
+ghost use Rattle.bb_base.specs.Variables.{IsEntry};
 ghost use Rattle.bb_net.specs.Named.{IsNamed, net_text};
-ghost use Rattle.bb_net.specs.Order.{IsOrder};
+ghost use Rattle.bb_netlist.specs.Order.{IsOrder};
 ghost use Rattle.bb_parse.specs.Sound.{IsSoundModule};
-ghost use Rattle.bb_elab.specs.declared.fault.ElabFault.TheVariants.{NoMemory};
-ghost use Rattle.bb_elab.specs.Names.{item_names};
-ghost use Rattle.bb_elab.specs.Uses.{AreNext};
-ghost use Rattle.bb_elab.specs.Variables.{variables};
-ghost use Rattle.bb_elab.specs.Text.{text_fault};
-ghost use Rattle.bb_elab.specs.Within.{IsWithin};
-ghost use Rattle.bb_elab.specs.Assembling.{ArePortsFirst};
+ghost use Rattle.bb_fault.specs.declared.fault.ElabFault.TheVariants.{NoMemory};
+ghost use Rattle.bb_scope.specs.Names.{item_names};
+ghost use Rattle.bb_scope.specs.Uses.{AreNext};
+ghost use Rattle.bb_scope.specs.Variables.{variables};
+ghost use Rattle.bb_width.specs.Text.{text_fault};
+ghost use Rattle.bb_drive.specs.Within.{IsWithin};
+ghost use Rattle.bb_assemble.specs.Assembling.{ArePortsFirst};
 ghost use Rattle.bb_elab.specs.LoopNames.{loop_at, IsLoopIn};
-ghost use Rattle.bb_elab.specs.Outcome.{IsOutcome, work_in, variables_in, net_fault, named_of, denoted};
+ghost use Rattle.bb_elab.specs.Outcome.{IsOutcome, work_in, variables_in, net_fault, denoted};
+ghost use Rattle.bb_assemble.specs.NamedOf.{named_of};
 
-use crate::ElabFault;
-use crate::assemble::assemble;
-use crate::clock::clock_in;
-use crate::items::work_of;
-use crate::nets::{all_variables, driven_nets, index_of};
-use crate::text::{Bound, checked};
-use crate::work::Work;
-use bb_net::{Name, Named, NetId, Order, OrderFault, Variable, find_order};
+use bb_assemble::assemble;
+use bb_base::{Name, Variable};
+use bb_drive::{Work, all_variables, clock_in, driven_nets, index_of};
+use bb_fault::ElabFault;
+use bb_gates::work_of;
+use bb_net::{Named, Order, OrderFault, find_order};
+use bb_netlist::NetId;
 use bb_parse::Module;
+use bb_width::{Bound, checked};
 use indexmap::IndexMap;
 use std::alloc::{AllocError, Global};
 

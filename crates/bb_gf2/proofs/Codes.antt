@@ -1,12 +1,12 @@
 -- parities bit by bit, and that they are linear
-use Rattle.std.proofs.Common.{◌≡◌, ℕ, ◌+◌, ◌-◌, ◌/◌, ◌%◌, ◌<◌, ◌==◌, zero, suc, min, Bool, false, not, ◌&&◌, refl, sym, ap, ◌∙◌, arith, bit_and, bit_xor}
+use Rattle.std.proofs.Common.{◌≡◌, ℕ, ◌+◌, ◌/◌, ◌%◌, ◌<◌, ◌==◌, zero, suc, min, Bool, false, ◌&&◌, refl, sym, ap, ◌∙◌, arith, bit_and, bit_xor}
 use Rattle.std.specs.Int.{bit_at}
 use Rattle.std.specs.Prelude.{count_ones}
 use Rattle.std.proofs.lemmas.Nat.Bits.{bit_at_and, bit_at_xor, bit_at-lt, bit_at_lowest, same_from_bits}
 use Rattle.std.proofs.lemmas.Nat.{and_comm, xor_shr, and_shr}
 use lib.Arith.{bin_ind}
 use lib.Count.{ones, ones_step}
-use Rattle.bb_gf2.specs.Bits.{xor}
+use Rattle.bb_base.specs.Booleans.{xor}
 use Rattle.bb_gf2.specs.Parity.{parity, code_bit}
 use Rattle.bb_gf2.proofs.Xor.{swap_xor}
 
@@ -14,18 +14,22 @@ use Rattle.bb_gf2.proofs.Xor.{swap_xor}
 abbrev pub low_bit : ℕ → Bool
 low_bit n = n % 2 == 1
 
-odd_sum : (a b : ℕ) → a < 2 → ((a + b) % 2 == 1) ≡ xor (a == 1) (b % 2 == 1)
-odd_sum zero b h = let same : 0 + b ≡ b = omega arith in ap (λ n. n % 2 == 1) same
-odd_sum (suc zero) b h = let turned : (1 + b) % 2 ≡ 1 - b % 2 = omega arith in ap (λ n. n == 1) turned ∙ flip (b % 2) (omega arith)
-  where
-    flip : (r : ℕ) → r < 2 → (1 - r == 1) ≡ not (r == 1)
-    flip zero h = refl
-    flip (suc zero) h = refl
-    flip (suc (suc r)) h = absurd (omega (arith, h))
-odd_sum (suc (suc a)) b h = absurd (omega (arith, h))
+low_sum : (a b : ℕ) → a < 2 → b < 2 → ((a + b) % 2 == 1) ≡ xor (a == 1) (b == 1)
+low_sum zero zero g h = refl
+low_sum zero (suc zero) g h = refl
+low_sum (suc zero) zero g h = refl
+low_sum (suc zero) (suc zero) g h = refl
+low_sum (suc (suc a)) b g h = absurd (omega (arith, g))
+low_sum a (suc (suc b)) g h = absurd (omega (arith, h))
+
+-- a sum is odd where one of its two numbers is and not both
+pub odd_sum : (a b : ℕ) → low_bit (a + b) ≡ xor (low_bit a) (low_bit b)
+odd_sum a b = let e : (a + b) % 2 ≡ (a % 2 + b % 2) % 2 = omega arith in ap (λ n. n == 1) e ∙ low_sum (a % 2) (b % 2) (omega arith) (omega arith)
 
 pub parity_step : (n : ℕ) → parity n ≡ xor (low_bit n) (parity (n / 2))
-parity_step n = let small : n % 2 < 2 = omega arith in ap (λ m. m % 2 == 1) (ones_step n) ∙ odd_sum (n % 2) (count_ones (n / 2)) small
+parity_step n =
+    let low : n % 2 % 2 ≡ n % 2 = omega arith in
+    ap low_bit (ones_step n) ∙ odd_sum (n % 2) (count_ones (n / 2)) ∙ ap (λ m. xor (m == 1) (parity (n / 2))) low
 
 pub parity_zero : parity 0 ≡ false
 unfolding count_ones
@@ -43,14 +47,6 @@ xor_mod_two a b = sym (bit_at_lowest (bit_xor a b)) ∙ bit_at_xor a b 0 ∙ (λ
 
 and_mod_two : (a b : ℕ) → bit_and a b % 2 ≡ min (a % 2) (b % 2)
 and_mod_two a b = sym (bit_at_lowest (bit_and a b)) ∙ bit_at_and a b 0 ∙ (λ i. min (bit_at_lowest a i) (bit_at_lowest b i))
-
-low_sum : (a b : ℕ) → a < 2 → b < 2 → ((a + b) % 2 == 1) ≡ xor (a == 1) (b == 1)
-low_sum zero zero g h = refl
-low_sum zero (suc zero) g h = refl
-low_sum (suc zero) zero g h = refl
-low_sum (suc zero) (suc zero) g h = refl
-low_sum (suc (suc a)) b g h = absurd (omega (arith, g))
-low_sum a (suc (suc b)) g h = absurd (omega (arith, h))
 
 low_min : (a b : ℕ) → a < 2 → b < 2 → (min a b == 1) ≡ ((a == 1) && (b == 1))
 low_min zero zero g h = refl

@@ -4,7 +4,8 @@ use Rattle.std.specs.Int.{bit_at}
 use Rattle.std.proofs.lemmas.Nat.Bits.{bit_at_lowest, bit_at-suc}
 use Rattle.std.proofs.Math.Nat.{pow-suc}
 use lib.Bits.{xor_zero_r, xor_assoc, xor_self, xor_comm, block_half, block_odd}
-use Rattle.bb_gf2.specs.Bits.{xor, chosen}
+use Rattle.bb_base.specs.Booleans.{xor}
+use Rattle.bb_gf2.specs.Bits.{picked}
 use Rattle.bb_gf2.specs.Span.{xor_of, combined}
 use Rattle.bb_gf2.proofs.Codes.{low_bit, xor_half, xor_low}
 
@@ -15,7 +16,7 @@ where_true b x = if b then x else 0
 pub combined_cons : (m r : ℕ) (rs : List ℕ) → combined m (r ∷ rs) ≡ bit_xor (where_true (low_bit m) r) (combined (m / 2) rs)
 combined_cons m r rs = go (low_bit m)
   where
-    go : (b : Bool) → xor_of (if b then r ∷ chosen (m / 2) rs else chosen (m / 2) rs) ≡ bit_xor (where_true b r) (combined (m / 2) rs)
+    go : (b : Bool) → xor_of (if b then r ∷ picked (m / 2) rs else picked (m / 2) rs) ≡ bit_xor (where_true b r) (combined (m / 2) rs)
     go true = refl
     go false = refl
 

@@ -11,7 +11,8 @@ use Rattle.std.proofs.lemmas.Nat.{shr_split, leading_top, pow_pos}
 use Rattle.std.proofs.lemmas.Nat.Bits.{bit_at_above, bit_at_cat_high}
 use lib.Bits.{xor_zero_r, xor_assoc, xor_self, xor_comm, xor_lt, xor_block}
 use lib.Count.{count_leading_zeros}
-use Rattle.bb_gf2.specs.Span.{combined, IsInSpan, IsInCoset, IsLeast}
+use Rattle.bb_gf2.specs.Span.{combined, IsInSpan, IsInCoset}
+use Rattle.bb_base.specs.Firsts.{IsLeast}
 use Rattle.bb_gf2.specs.Reduced.{IsNewRow, IsReduced}
 use Rattle.bb_gf2.proofs.Codes.{low_bit}
 use Rattle.bb_gf2.proofs.Combine.{where_true, combined_cons, combined_none, combined_xor, combined_low, combined_push, xor_twice}
@@ -116,13 +117,6 @@ coset_min xs r v u h = go (cases_lt (bit_xor u r) u)
         let e : u ≡ min u (bit_xor u r) = omega (arith, le) in
         let n = push_mask xs r false h.0 in
         (n.0, ap (bit_xor v) n.1 ∙ h.1 ∙ e)
-
-pub least_none : (v : ℕ) → IsLeast (IsInCoset [] v) v
-least_none v =
-    record {
-      holds = (0, xor_zero_r v);
-      least = λ w there. let e : v ≡ w = sym (xor_zero_r v) ∙ there.1 in omega (arith, e);
-    }
 
 pub least_more : (rows : List ℕ) (i v u : ℕ) → i < length rows → IsReduced rows → IsLeast (IsInCoset (take i rows) v) u
     → IsLeast (IsInCoset (take (i + 1) rows) v) (min u (bit_xor u (get_or rows i 0)))

@@ -7,9 +7,11 @@ use Rattle.std.proofs.lemmas.List.{get_or_append_left, get_or_push}
 use Rattle.std.proofs.lemmas.Nat.Bits.{bit_at-lt, bit_at_cat_low, bit_at_cat_high, same_from_bits_below}
 use Rattle.std.proofs.Math.Nat.{pow-suc}
 use lib.Bits.{xor_comm}
-use Rattle.bb_gf2.specs.Bits.{xor, value}
+use Rattle.bb_base.specs.Booleans.{xor}
+use Rattle.bb_gf2.specs.Bits.{from_bits}
 use Rattle.bb_gf2.specs.Parity.{code_bit, code_word}
-use Rattle.bb_gf2.specs.Span.{combined, IsDependence, IsLeast}
+use Rattle.bb_gf2.specs.Span.{combined, IsDependence}
+use Rattle.bb_base.specs.Firsts.{IsLeast}
 use Rattle.bb_gf2.specs.Dual.{IsDual, AreLeastDuals}
 use Rattle.bb_gf2.proofs.Xor.{xor_self_bits, xor_false_bits}
 use Rattle.bb_gf2.proofs.Codes.{code_xor, code_xor_state, code_comm, code_zero}
@@ -44,7 +46,7 @@ module _ (rows ds : List ℕ) (r : ℕ) (duals : AreLeastDuals rows ds) where
 
   -- the rows that make the new one, if they do
   abbrev pub subset : ℕ
-  subset = value (code_word ds r)
+  subset = from_bits (code_word ds r)
 
   -- what is left of the new row without them
   abbrev pub rest : ℕ
@@ -162,25 +164,25 @@ module _ (rows ds : List ℕ) (r : ℕ) (duals : AreLeastDuals rows ds) where
   module _ (lowest : ℕ) (coded : code_bit rest lowest ≡ true) (kept : (n : ℕ) → code_bit rest n ≡ false → lowest ≤ bit_xor lowest n) where
     -- the dual of the new row
     abbrev pub new_dual : ℕ
-    new_dual = bit_xor lowest (combined (value (code_word rows lowest)) ds)
+    new_dual = bit_xor lowest (combined (from_bits (code_word rows lowest)) ds)
 
     rows_miss : AllMiss rows new_dual
     rows_miss j lt =
-        let d = combined (value (code_word rows lowest)) ds in
+        let d = combined (from_bits (code_word rows lowest)) ds in
         let row = get_or rows j 0 in
         let back : j < length ds = subst (λ n. j < n) (sym duals.one_each) lt in
         code_xor_state row lowest d
-        ∙ ap (xor (code_bit row lowest)) (code_comm row d ∙ dual_coded ds j row (value (code_word rows lowest)) (back_at j lt) back ∙ mask_at rows lowest j lt)
+        ∙ ap (xor (code_bit row lowest)) (code_comm row d ∙ dual_coded ds j row (from_bits (code_word rows lowest)) (back_at j lt) back ∙ mask_at rows lowest j lt)
         ∙ xor_self_bits (code_bit row lowest)
 
     new_codes : code_bit r new_dual ≡ true
     new_codes =
-        let d = combined (value (code_word rows lowest)) ds in
+        let d = combined (from_bits (code_word rows lowest)) ds in
         ap (λ c. code_bit c new_dual) (sym (xor_twice (combined subset rows) r) ∙ ap (bit_xor (combined subset rows)) (xor_comm (combined subset rows) r))
         ∙ code_xor (combined subset rows) rest new_dual
         ∙ ap (λ b. xor b (code_bit rest new_dual)) (none_coded rows subset new_dual rows_miss)
         ∙ code_xor_state rest lowest d
-        ∙ (λ i. xor (coded i) ((code_comm rest d ∙ none_coded ds (value (code_word rows lowest)) rest all_miss_rest) i))
+        ∙ (λ i. xor (coded i) ((code_comm rest d ∙ none_coded ds (from_bits (code_word rows lowest)) rest all_miss_rest) i))
 
     -- what the rows and the new one miss, the rest of it misses
     missed_by : (n : ℕ) → AllMiss (rows ++ r ∷ []) n → AllMiss rows n × (code_bit rest n ≡ false)
@@ -195,8 +197,8 @@ module _ (rows ds : List ℕ) (r : ℕ) (duals : AreLeastDuals rows ds) where
     new_kept : IsKept (rows ++ r ∷ []) new_dual
     new_kept n miss =
         let m = missed_by n miss in
-        keeps_xor n lowest (combined (value (code_word rows lowest)) ds) (kept n m.1)
-        (keeps_combined n ds (value (code_word rows lowest)) (λ i l. kept_at n m.0 i (subst (λ k. i < k) duals.one_each l)))
+        keeps_xor n lowest (combined (from_bits (code_word rows lowest)) ds) (kept n m.1)
+        (keeps_combined n ds (from_bits (code_word rows lowest)) (λ i l. kept_at n m.0 i (subst (λ k. i < k) duals.one_each l)))
 
     -- a dual before it, corrected where the new row has it
     abbrev corrected : Bool → ℕ → ℕ

@@ -9,14 +9,14 @@ use Rattle.std.proofs.lemmas.Nat.Bits.{bit_at_lowest, bit_at-suc, bit_at-lt, sam
 use Rattle.std.proofs.Math.Nat.{mod-eq_of_lt}
 use lib.Arith.{bin_ind}
 use lib.Bits.{xor_lt}
-use Rattle.bb_gf2.specs.Bits.{value}
+use Rattle.bb_gf2.specs.Bits.{from_bits}
 use Rattle.bb_gf2.specs.Parity.{parity, code_bit, code_word}
 use Rattle.bb_gf2.specs.Span.{combined, IsDependence, IsIndependent}
 use Rattle.bb_gf2.specs.Dual.{IsDual, AreDuals, AreLeastDuals}
 use Rattle.bb_gf2.proofs.Codes.{low_bit, code_comm, code_zero}
 use Rattle.bb_gf2.proofs.Combine.{where_true, combined_cons}
 use Rattle.bb_gf2.proofs.Low.{lowest_coded, lowest_keeps}
-use Rattle.bb_gf2.proofs.Pairing.{dual_coded, value_at, rows_of_duals}
+use Rattle.bb_gf2.proofs.Pairing.{dual_coded, from_bits_at, rows_of_duals}
 use Rattle.bb_gf2.proofs.DualSteps.{subset, rest, with_last, least_dependence, new_dual, more_duals}
 use Rattle.bb_gf2.proofs.Rows.{least_of_all}
 
@@ -91,12 +91,12 @@ independent rows duals h m d =
     off b i lt e = let zero_here : bit_at 0 i ≡ 0 = omega arith in let z : b ≡ 0 = grind (arith, nat_tests) in z ∙ sym zero_here
 
 -- the state that the chosen duals make has the wanted code bits
-pub state_codes : (rows duals : List ℕ) (wanted : List Bool) → AreDuals rows duals → length wanted ≡ length rows → code_word rows (combined (value wanted) duals) ≡ wanted
+pub state_codes : (rows duals : List ℕ) (wanted : List Bool) → AreDuals rows duals → length wanted ≡ length rows → code_word rows (combined (from_bits wanted) duals) ≡ wanted
 state_codes rows duals wanted h long =
     ext_get_or false (code_word rows state) wanted (words ∙ sym long) (λ i lt. each i (subst (λ n. i < n) words lt))
   where
     state : ℕ
-    state = combined (value wanted) duals
+    state = combined (from_bits wanted) duals
 
     words : length (code_word rows state) ≡ length rows
     words = length-map rows (λ column. code_bit column state)
@@ -104,10 +104,10 @@ state_codes rows duals wanted h long =
     each : (i : ℕ) → i < length rows → get_or (code_word rows state) i false ≡ get_or wanted i false
     each i lt =
         get_or-map (λ column. code_bit column state) rows i 0 false lt ∙ code_comm (get_or rows i 0) state
-        ∙ by_dual ∙ value_at wanted i
+        ∙ by_dual ∙ from_bits_at wanted i
       where
-        by_dual : code_bit state (get_or rows i 0) ≡ (bit_at (value wanted) i == 1)
-        by_dual = dual_coded duals i (get_or rows i 0) (value wanted) (rows_of_duals rows duals h i lt) (subst (λ n. i < n) (sym h.one_each) lt)
+        by_dual : code_bit state (get_or rows i 0) ≡ (bit_at (from_bits wanted) i == 1)
+        by_dual = dual_coded duals i (get_or rows i 0) (from_bits wanted) (rows_of_duals rows duals h i lt) (subst (λ n. i < n) (sym h.one_each) lt)
 
 -- the bits of a state above a row don't count
 code_low : (k r x : ℕ) → r < 2 ^ k → code_bit r (x % 2 ^ k) ≡ code_bit r x

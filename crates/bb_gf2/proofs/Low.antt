@@ -5,7 +5,7 @@ use Rattle.std.proofs.lemmas.Bool.Decides.{nat_tests}
 use Rattle.std.proofs.lemmas.Bool.{cases_lt}
 use lib.Arith.{bin_ind}
 use lib.Bits.{xor_zero_r, xor_assoc, xor_self}
-use Rattle.bb_gf2.specs.Bits.{xor}
+use Rattle.bb_base.specs.Booleans.{xor}
 use Rattle.std.specs.Int.{bit_at}
 use Rattle.std.proofs.lemmas.Nat.Bits.{bit_at_lowest, bit_at-suc}
 use Rattle.std.proofs.Math.Nat.{pow-suc}

@@ -1,12 +1,13 @@
 -- code bits of combinations, and the bits of masks
-use Rattle.std.proofs.Common.{◌≡◌, ℕ, ◌+◌, ◌*◌, ◌/◌, ◌%◌, ◌^◌, ◌<◌, ◌==◌, zero, suc, List, [], ◌∷◌, length, get_or, Bool, true, false, ◌&&◌, if◌then◌else◌, refl, sym, ap, ◌∙◌, subst, arith}
+use Rattle.std.proofs.Common.{◌≡◌, ℕ, ◌+◌, ◌*◌, ◌/◌, ◌%◌, ◌^◌, ◌<◌, ◌==◌, zero, suc, List, [], ◌∷◌, length, get_or, Bool, true, false, ◌&&◌, refl, sym, ap, ◌∙◌, subst, arith}
 use Rattle.std.specs.Int.{bit_at}
 use Rattle.std.proofs.lemmas.Bool.Decides.{nat_tests}
 use Rattle.std.proofs.lemmas.Bool.{ne_eqb}
 use Rattle.std.proofs.lemmas.List.{get_or-map, length-map}
 use Rattle.std.proofs.lemmas.Nat.Bits.{bit_at_lowest, bit_at-suc}
 use Rattle.std.proofs.Math.Nat.{pow-suc}
-use Rattle.bb_gf2.specs.Bits.{xor, value}
+use Rattle.bb_base.specs.Booleans.{xor}
+use Rattle.bb_gf2.specs.Bits.{from_bits}
 use Rattle.bb_gf2.specs.Parity.{code_bit, code_word}
 use Rattle.bb_gf2.specs.Span.{combined}
 use Rattle.bb_gf2.specs.Dual.{IsDual, AreDuals, AreLeastDuals}
@@ -65,35 +66,32 @@ dual_coded (r ∷ rs) (suc place) d m h lt =
 
 -- ---- a mask from its bits
 
-number : Bool → ℕ
-number b = if b then 1 else 0
+pub from_bits_half : (b : Bool) (bs : List Bool) → from_bits (b ∷ bs) / 2 ≡ from_bits bs
+from_bits_half true bs = omega arith
+from_bits_half false bs = omega arith
 
-pub value_half : (b : Bool) (bs : List Bool) → value (b ∷ bs) / 2 ≡ value bs
-value_half true bs = omega arith
-value_half false bs = omega arith
+pub from_bits_low : (b : Bool) (bs : List Bool) → low_bit (from_bits (b ∷ bs)) ≡ b
+from_bits_low true bs = let odd : (1 + 2 * from_bits bs) % 2 ≡ 1 = omega arith in ap (λ n. n == 1) odd
+from_bits_low false bs = let even : (0 + 2 * from_bits bs) % 2 ≡ 0 = omega arith in ap (λ n. n == 1) even
 
-pub value_low : (b : Bool) (bs : List Bool) → low_bit (value (b ∷ bs)) ≡ b
-value_low true bs = let odd : (1 + 2 * value bs) % 2 ≡ 1 = omega arith in ap (λ n. n == 1) odd
-value_low false bs = let even : (0 + 2 * value bs) % 2 ≡ 0 = omega arith in ap (λ n. n == 1) even
-
-pub value_at : (bs : List Bool) (i : ℕ) → (bit_at (value bs) i == 1) ≡ get_or bs i false
-value_at [] i = ap (λ n. n == 1) (none i)
+pub from_bits_at : (bs : List Bool) (i : ℕ) → (bit_at (from_bits bs) i == 1) ≡ get_or bs i false
+from_bits_at [] i = ap (λ n. n == 1) (none i)
   where
     none : (i : ℕ) → bit_at 0 i ≡ 0
     none i = omega arith
-value_at (b ∷ bs) zero = ap (λ n. n == 1) (bit_at_lowest (value (b ∷ bs))) ∙ value_low b bs
-value_at (b ∷ bs) (suc i) = ap (λ n. n == 1) (bit_at-suc (value (b ∷ bs)) i ∙ ap (λ n. bit_at n i) (value_half b bs)) ∙ value_at bs i
+from_bits_at (b ∷ bs) zero = ap (λ n. n == 1) (bit_at_lowest (from_bits (b ∷ bs))) ∙ from_bits_low b bs
+from_bits_at (b ∷ bs) (suc i) = ap (λ n. n == 1) (bit_at-suc (from_bits (b ∷ bs)) i ∙ ap (λ n. bit_at n i) (from_bits_half b bs)) ∙ from_bits_at bs i
 
-pub value_below : (bs : List Bool) → value bs < 2 ^ length bs
-value_below [] = omega arith
-value_below (true ∷ bs) = let e : 2 ^ suc (length bs) ≡ 2 ^ length bs * 2 = pow-suc 2 (length bs) in omega (arith, e, value_below bs)
-value_below (false ∷ bs) = let e : 2 ^ suc (length bs) ≡ 2 ^ length bs * 2 = pow-suc 2 (length bs) in omega (arith, e, value_below bs)
+pub from_bits_below : (bs : List Bool) → from_bits bs < 2 ^ length bs
+from_bits_below [] = omega arith
+from_bits_below (true ∷ bs) = let e : 2 ^ suc (length bs) ≡ 2 ^ length bs * 2 = pow-suc 2 (length bs) in omega (arith, e, from_bits_below bs)
+from_bits_below (false ∷ bs) = let e : 2 ^ suc (length bs) ≡ 2 ^ length bs * 2 = pow-suc 2 (length bs) in omega (arith, e, from_bits_below bs)
 
-pub mask_at : (rows : List ℕ) (x i : ℕ) → i < length rows → (bit_at (value (code_word rows x)) i == 1) ≡ code_bit (get_or rows i 0) x
-mask_at rows x i lt = value_at (code_word rows x) i ∙ get_or-map (λ column. code_bit column x) rows i 0 false lt
+pub mask_at : (rows : List ℕ) (x i : ℕ) → i < length rows → (bit_at (from_bits (code_word rows x)) i == 1) ≡ code_bit (get_or rows i 0) x
+mask_at rows x i lt = from_bits_at (code_word rows x) i ∙ get_or-map (λ column. code_bit column x) rows i 0 false lt
 
-pub mask_below : (rows : List ℕ) (x : ℕ) → value (code_word rows x) < 2 ^ length rows
-mask_below rows x = subst (λ n. value (code_word rows x) < 2 ^ n) (length-map rows (λ column. code_bit column x)) (value_below (code_word rows x))
+pub mask_below : (rows : List ℕ) (x : ℕ) → from_bits (code_word rows x) < 2 ^ length rows
+mask_below rows x = subst (λ n. from_bits (code_word rows x) < 2 ^ n) (length-map rows (λ column. code_bit column x)) (from_bits_below (code_word rows x))
 
 -- what s lowers in no row, it lowers in no combination
 pub keeps_combined : (s : ℕ) (rows : List ℕ) (m : ℕ) → ((i : ℕ) → i < length rows → Keeps s (get_or rows i 0)) → Keeps s (combined m rows)

@@ -6,15 +6,16 @@ use Rattle.std.proofs.lemmas.List.{take_more, take-append-drop}
 use Rattle.std.proofs.lemmas.Nat.{one_shl}
 use Rattle.std.proofs.Math.Nat.{pow-le-pow_right}
 use lib.Bits.{or_shifted_r}
-use Rattle.bb_gf2.specs.Bits.{value}
+use Rattle.bb_gf2.specs.Bits.{from_bits}
 use Rattle.bb_gf2.specs.Parity.{code_bit, code_word}
-use Rattle.bb_gf2.specs.Span.{combined, IsDependence, IsLeast}
+use Rattle.bb_gf2.specs.Span.{combined, IsDependence}
+use Rattle.bb_base.specs.Firsts.{IsLeast}
 use Rattle.bb_gf2.specs.Dual.{AreLeastDuals}
 use Rattle.bb_gf2.proofs.Combine.{combined_front}
 use Rattle.bb_gf2.proofs.DualSteps.{subset, rest, with_last, subset_below, least_dependence, new_dual, more_duals}
 
 -- the rows that make a row, with it, are the least dependence
-pub dependence_found : (rows ds : List ℕ) (row chosen sum : ℕ) → AreLeastDuals rows ds → length rows < 16 → chosen ≡ value (code_word ds row) → sum ≡ combined chosen rows → bit_xor row sum ≡ 0
+pub dependence_found : (rows ds : List ℕ) (row chosen sum : ℕ) → AreLeastDuals rows ds → length rows < 16 → chosen ≡ from_bits (code_word ds row) → sum ≡ combined chosen rows → bit_xor row sum ≡ 0
     → IsLeast (IsDependence (rows ++ row ∷ [])) (bit_or chosen (1 * 2 ^ length rows % 2 ^ 32))
 dependence_found rows ds row chosen sum duals room is made none =
     let shifted : 1 * 2 ^ length rows % 2 ^ 32 ≡ 1 * 2 ^ length rows = (let plain : 1 * 2 ^ length rows ≡ 2 ^ length rows = omega arith in one_shl (length rows) 32 (omega (arith, room)) ∙ sym plain) in
@@ -24,9 +25,9 @@ dependence_found rows ds row chosen sum duals room is made none =
     (least_dependence rows ds row duals (sym (ap (bit_xor row) (made ∙ ap (λ m. combined m rows) is)) ∙ none))
 
 -- the duals with a row more
-pub duals_made : (rows ds : List ℕ) (row chosen sum lowest codes correction dual : ℕ) (made : List ℕ) → AreLeastDuals rows ds → chosen ≡ value (code_word ds row) → sum ≡ combined chosen rows
+pub duals_made : (rows ds : List ℕ) (row chosen sum lowest codes correction dual : ℕ) (made : List ℕ) → AreLeastDuals rows ds → chosen ≡ from_bits (code_word ds row) → sum ≡ combined chosen rows
     → code_bit (bit_xor row sum) lowest ≡ true → ((n : ℕ) → code_bit (bit_xor row sum) n ≡ false → lowest ≤ bit_xor lowest n)
-    → codes ≡ value (code_word rows lowest) → correction ≡ combined codes ds → dual ≡ bit_xor lowest correction
+    → codes ≡ from_bits (code_word rows lowest) → correction ≡ combined codes ds → dual ≡ bit_xor lowest correction
     → length made ≡ length ds → ((i : ℕ) → i < length ds → get_or made i 0 ≡ (if bit_at chosen i == 1 then bit_xor (get_or ds i 0) dual else get_or ds i 0))
     → AreLeastDuals (rows ++ row ∷ []) (made ++ dual ∷ [])
 duals_made rows ds row chosen sum lowest codes correction dual made duals is summed coded kept codes_is correction_is dual_is long each =

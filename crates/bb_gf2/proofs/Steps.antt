@@ -6,11 +6,11 @@ use Rattle.std.proofs.lemmas.List.{map_more, length-map, length-take-le, length-
 use Rattle.std.proofs.lemmas.Nat.{one_shl, shr-shr}
 use Rattle.std.proofs.Math.Nat.{pow-suc}
 use lib.Bits.{xor_assoc, or_shifted_r}
-use Rattle.bb_gf2.specs.Bits.{value}
+use Rattle.bb_gf2.specs.Bits.{from_bits}
 use Rattle.bb_gf2.specs.Parity.{code_bit, code_word}
 use Rattle.bb_gf2.specs.Span.{combined}
 use Rattle.bb_gf2.proofs.Combine.{where_true, combined_cons}
-use Rattle.bb_gf2.proofs.Pairing.{value_below}
+use Rattle.bb_gf2.proofs.Pairing.{from_bits_below}
 
 -- a chosen row goes into the sum
 pub sum_with : (sum left x total : ℕ) (rest : List ℕ) → left % 2 ≡ 1 → bit_xor sum (combined left (x ∷ rest)) ≡ total → bit_xor (bit_xor sum x) (combined (left / 2) rest) ≡ total
@@ -26,37 +26,37 @@ sum_without sum left x total rest even h =
     ∙ ap (bit_xor sum) (sym (combined_cons left x rest)) ∙ h
 
 -- the number with one bit more
-pub value_push : (bs : List Bool) (b : Bool) → value (bs ++ b ∷ []) ≡ (if b then 1 else 0) * 2 ^ length bs + value bs
-value_push [] true = refl
-value_push [] false = refl
-value_push (true ∷ bs) true = let double : 2 ^ suc (length bs) ≡ 2 ^ length bs * 2 = pow-suc 2 (length bs) in omega (arith, double, value_push bs true)
-value_push (true ∷ bs) false = let double : 2 ^ suc (length bs) ≡ 2 ^ length bs * 2 = pow-suc 2 (length bs) in omega (arith, double, value_push bs false)
-value_push (false ∷ bs) true = let double : 2 ^ suc (length bs) ≡ 2 ^ length bs * 2 = pow-suc 2 (length bs) in omega (arith, double, value_push bs true)
-value_push (false ∷ bs) false = let double : 2 ^ suc (length bs) ≡ 2 ^ length bs * 2 = pow-suc 2 (length bs) in omega (arith, double, value_push bs false)
+pub from_bits_push : (bs : List Bool) (b : Bool) → from_bits (bs ++ b ∷ []) ≡ (if b then 1 else 0) * 2 ^ length bs + from_bits bs
+from_bits_push [] true = refl
+from_bits_push [] false = refl
+from_bits_push (true ∷ bs) true = let double : 2 ^ suc (length bs) ≡ 2 ^ length bs * 2 = pow-suc 2 (length bs) in omega (arith, double, from_bits_push bs true)
+from_bits_push (true ∷ bs) false = let double : 2 ^ suc (length bs) ≡ 2 ^ length bs * 2 = pow-suc 2 (length bs) in omega (arith, double, from_bits_push bs false)
+from_bits_push (false ∷ bs) true = let double : 2 ^ suc (length bs) ≡ 2 ^ length bs * 2 = pow-suc 2 (length bs) in omega (arith, double, from_bits_push bs true)
+from_bits_push (false ∷ bs) false = let double : 2 ^ suc (length bs) ≡ 2 ^ length bs * 2 = pow-suc 2 (length bs) in omega (arith, double, from_bits_push bs false)
 
 length_word : (columns : List ℕ) (state i : ℕ) → i ≤ length columns → length (code_word (take i columns) state) ≡ i
 length_word columns state i le = length-map (take i columns) (λ column. code_bit column state) ∙ length-take-le i columns le
 
 -- the mask of one column more
 mask_more : (columns : List ℕ) (state i : ℕ) (b : Bool) → i < length columns → code_bit (get_or columns i 0) state ≡ b
-    → value (code_word (take (i + 1) columns) state) ≡ (if b then 1 else 0) * 2 ^ i + value (code_word (take i columns) state)
+    → from_bits (code_word (take (i + 1) columns) state) ≡ (if b then 1 else 0) * 2 ^ i + from_bits (code_word (take i columns) state)
 mask_more columns state i b lt e =
     let word = code_word (take i columns) state in
-    ap value (map_more (λ column. code_bit column state) columns i 0 lt ∙ ap (λ (c : Bool). word ++ c ∷ []) e)
-    ∙ value_push word b ∙ ap (λ n. (if b then 1 else 0) * 2 ^ n + value word) (length_word columns state i (omega (arith, lt)))
+    ap from_bits (map_more (λ column. code_bit column state) columns i 0 lt ∙ ap (λ (c : Bool). word ++ c ∷ []) e)
+    ∙ from_bits_push word b ∙ ap (λ n. (if b then 1 else 0) * 2 ^ n + from_bits word) (length_word columns state i (omega (arith, lt)))
 
-pub mask_with : (columns : List ℕ) (state i mask : ℕ) → i < length columns → i < 32 → mask ≡ value (code_word (take i columns) state) → code_bit (get_or columns i 0) state ≡ true
-    → bit_or mask (1 * 2 ^ i % 2 ^ 32) ≡ value (code_word (take (i + 1) columns) state)
+pub mask_with : (columns : List ℕ) (state i mask : ℕ) → i < length columns → i < 32 → mask ≡ from_bits (code_word (take i columns) state) → code_bit (get_or columns i 0) state ≡ true
+    → bit_or mask (1 * 2 ^ i % 2 ^ 32) ≡ from_bits (code_word (take (i + 1) columns) state)
 mask_with columns state i mask lt small is e =
     let word = code_word (take i columns) state in
-    let below : mask < 2 ^ i = subst (λ n. mask < 2 ^ n) (length_word columns state i (omega (arith, lt))) (subst (λ m. m < 2 ^ length word) (sym is) (value_below word)) in
+    let below : mask < 2 ^ i = subst (λ n. mask < 2 ^ n) (length_word columns state i (omega (arith, lt))) (subst (λ m. m < 2 ^ length word) (sym is) (from_bits_below word)) in
     let shifted : 1 * 2 ^ i % 2 ^ 32 ≡ 1 * 2 ^ i = (let plain : 1 * 2 ^ i ≡ 2 ^ i = omega arith in one_shl i 32 small ∙ sym plain) in
     ap (bit_or mask) shifted ∙ or_shifted_r 1 i mask below ∙ ap (λ m. 1 * 2 ^ i + m) is ∙ sym (mask_more columns state i true lt e)
 
-pub mask_without : (columns : List ℕ) (state i mask : ℕ) → i < length columns → mask ≡ value (code_word (take i columns) state) → code_bit (get_or columns i 0) state ≡ false
-    → mask ≡ value (code_word (take (i + 1) columns) state)
+pub mask_without : (columns : List ℕ) (state i mask : ℕ) → i < length columns → mask ≡ from_bits (code_word (take i columns) state) → code_bit (get_or columns i 0) state ≡ false
+    → mask ≡ from_bits (code_word (take (i + 1) columns) state)
 mask_without columns state i mask lt is e =
-    let none : 0 * 2 ^ i + value (code_word (take i columns) state) ≡ value (code_word (take i columns) state) = omega arith in
+    let none : 0 * 2 ^ i + from_bits (code_word (take i columns) state) ≡ from_bits (code_word (take i columns) state) = omega arith in
     is ∙ sym none ∙ sym (mask_more columns state i false lt e)
 
 -- ---- adding a vector where a mask says so

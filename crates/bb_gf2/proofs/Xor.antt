@@ -1,6 +1,6 @@
 -- the exclusive or of bits
 use Rattle.std.proofs.Common.{◌≡◌, Bool, true, false, refl, sym, ap, ◌∙◌}
-use Rattle.bb_gf2.specs.Bits.{xor}
+use Rattle.bb_base.specs.Booleans.{xor}
 
 pub xor_assoc_bits : (a b c : Bool) → xor (xor a b) c ≡ xor a (xor b c)
 xor_assoc_bits true true true = refl

@@ -1,15 +1,5 @@
 -- Numbers as lists of bits, the lowest first.
-use Rattle.std.specs.Prelude.{ℕ, ◌+◌, ◌*◌, ◌/◌, ◌%◌, ◌==◌, zero, suc, Bool, true, false, not, List, [], ◌∷◌, if◌then◌else◌}
-
--- the exclusive or of two bits
-abbrev pub xor : Bool → Bool → Bool
-xor true b = not b
-xor false b = b
-
--- the exclusive or of all bits: 1 where an odd number of them is 1
-abbrev pub parity_of_bits : List Bool → Bool
-parity_of_bits [] = false
-parity_of_bits (b ∷ bs) = xor b (parity_of_bits bs)
+use Rattle.std.specs.Prelude.{ℕ, ◌+◌, ◌*◌, ◌/◌, ◌%◌, ◌==◌, zero, suc, Bool, List, [], ◌∷◌, if◌then◌else◌}
 
 -- the lowest k bits of a number
 abbrev pub bits : ℕ → ℕ → List Bool
@@ -17,11 +7,11 @@ bits zero x = []
 bits (suc k) x = (x % 2 == 1) ∷ bits k (x / 2)
 
 -- the number of these bits
-abbrev pub value : List Bool → ℕ
-value [] = 0
-value (b ∷ bs) = (if b then 1 else 0) + 2 * value bs
+abbrev pub from_bits : List Bool → ℕ
+from_bits [] = 0
+from_bits (b ∷ bs) = (if b then 1 else 0) + 2 * from_bits bs
 
 -- the items at whose places a mask has a 1
-abbrev pub chosen : {X : Type 0} → ℕ → List X → List X
-chosen mask [] = []
-chosen mask (x ∷ xs) = if mask % 2 == 1 then x ∷ chosen (mask / 2) xs else chosen (mask / 2) xs
+abbrev pub picked : {X : Type 0} → ℕ → List X → List X
+picked mask [] = []
+picked mask (x ∷ xs) = if mask % 2 == 1 then x ∷ picked (mask / 2) xs else picked (mask / 2) xs

@@ -1,7 +1,7 @@
 -- The duals of a list of rows: for each row a vector whose code bit is 1 at that row alone.
 use Rattle.std.specs.Prelude.{◌≡◌, ℕ, ◌<◌, ◌==◌, List, length, slice_index}
 use Rattle.bb_gf2.specs.Parity.{code_bit}
-use Rattle.bb_gf2.specs.Span.{IsLeast}
+use Rattle.bb_base.specs.Firsts.{IsLeast}
 
 -- a dual of the row at a place: the code bit of each row is 1 exactly at that place
 abbrev pub IsDual : List ℕ → ℕ → ℕ → Type 0

@@ -1,6 +1,6 @@
 -- The span of a list of numbers under exclusive or, and independence.
-use Rattle.std.specs.Prelude.{◌≡◌, ℕ, ◌<◌, ◌≤◌, ◌^◌, List, [], ◌∷◌, length, bit_xor}
-use Rattle.bb_gf2.specs.Bits.{chosen}
+use Rattle.std.specs.Prelude.{◌≡◌, ℕ, ◌<◌, ◌^◌, List, [], ◌∷◌, length, bit_xor}
+use Rattle.bb_gf2.specs.Bits.{picked}
 
 -- the exclusive or of numbers
 abbrev pub xor_of : List ℕ → ℕ
@@ -9,7 +9,7 @@ xor_of (x ∷ xs) = bit_xor x (xor_of xs)
 
 -- the exclusive or of the rows that a mask chooses
 abbrev pub combined : ℕ → List ℕ → ℕ
-combined mask rows = xor_of (chosen mask rows)
+combined mask rows = xor_of (picked mask rows)
 
 -- a member of the span: the exclusive or of some of the rows
 abbrev pub IsInSpan : List ℕ → ℕ → Type 0
@@ -28,8 +28,3 @@ pub record IsDependence (rows : List ℕ) (mask : ℕ) : Type 0 where
 -- no nonempty set of rows has the exclusive or 0
 abbrev pub IsIndependent : List ℕ → Type 0
 IsIndependent rows = (mask : ℕ) → IsDependence rows mask → ⊥
-
--- the least number with a property
-pub record IsLeast (P : ℕ → Type 0) (n : ℕ) : Type 0 where
-  pub holds : P n
-  pub least : (m : ℕ) → P m → n ≤ m

@@ -15,8 +15,6 @@
 mod laws;
 mod parities;
 mod spans;
-#[cfg(test)]
-mod tests;
 mod vectors;
 
 pub use laws::{any_vector, bits_agree};

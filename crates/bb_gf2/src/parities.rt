@@ -1,7 +1,7 @@
 // Parities, code bits, and the exclusive or of chosen rows.
 
 ghost use Rattle.std.specs.Prelude.{◌≡◌, ◌≤◌, length};
-ghost use Rattle.bb_gf2.specs.Bits.{value};
+ghost use Rattle.bb_gf2.specs.Bits.{from_bits};
 ghost use Rattle.bb_gf2.specs.Parity.{parity, code_bit, code_word};
 ghost use Rattle.bb_gf2.specs.Span.{combined};
 
@@ -22,7 +22,7 @@ pub fn code_bit(column: u32, state: u32) -> bool
 /// The code bits of a state, as a mask with a bit for each column.
 pub(crate) fn code_mask(columns: &[u32], state: u32) -> u32
     requires { length columns.now ≤ 16 }
-    ensures { result ≡ value (code_word columns.now state) }
+    ensures { result ≡ from_bits (code_word columns.now state) }
 {
     let mut mask = 0;
     for (place, column) in columns.iter().enumerate() {

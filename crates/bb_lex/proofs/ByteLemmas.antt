@@ -1,16 +1,18 @@
 -- What the tests of bytes have to do with one another.
 use Rattle.std.proofs.Common.{◌≡◌, ℕ, ◌+◌, ◌≤◌, min, Bool, true, false, ◌&&◌, ◌||◌, ◌==◌, nat_lt, List, [], ◌∷◌, ◌++◌, Some, None, sym, ap, ◌∙◌, refl, arith}
 use Rattle.std.proofs.lemmas.Bool.Decides.{nat_tests}
-use Rattle.bb_net.specs.Name.{IsNameByte}
+use Rattle.bb_base.specs.Name.{IsNameByte}
 use Rattle.bb_lex.specs.declared.bytes.Class.TheVariants as class
 use Rattle.bb_lex.specs.declared.bytes.Base.{Base}
 use Rattle.bb_lex.specs.declared.bytes.Base.TheVariants.{Binary, Octal, Decimal, Hexadecimal}
 use Rattle.bb_lex.specs.declared.token.Mark.{Mark}
 use Rattle.bb_lex.specs.declared.lexer.Fence.{Fence}
 use Rattle.bb_lex.specs.declared.lexer.Fence.TheVariants.{Comment, Attribute}
-use Rattle.bb_lex.specs.Bytes.{class_of, is_word, is_number, is_constant, is_graphic, is_odd, is_sign, base_of, radix_of, digit_of, is_digit, is_digit_or_low, AllOf, feed, feeds}
+use Rattle.bb_base.specs.Name.{is_name_byte}
+use Rattle.bb_base.specs.Words.{is_word_byte}
+use Rattle.bb_lex.specs.Bytes.{class_of, is_number, is_constant, is_odd, is_sign, base_of, radix_of, digit_of, is_digit, is_digit_or_low, AllOf, feed, feeds}
 use Rattle.bb_lex.specs.Fences.{opener, closer}
-use Rattle.bb_lex.specs.Text.{is_inside, timescale}
+use Rattle.bb_lex.specs.Text.{is_in_line, timescale}
 use Rattle.bb_lex.specs.Machine.{Mode, InName, AtBackslash, InEscaped, goes_on, constant_limit}
 
 -- a letter may stand in a name
@@ -19,16 +21,14 @@ unfolding class_of
 letter_plain b h = grind (arith, nat_tests)
 
 -- what goes on a simple name may stand in a name
-pub word_plain : (b : ℕ) → is_word b ≡ true → IsNameByte b
-unfolding is_word
+pub word_plain : (b : ℕ) → is_word_byte b ≡ true → IsNameByte b
 word_plain b h = grind (arith, nat_tests)
 
 -- a byte of an escaped name may stand in a name
-pub graphic_plain : (b : ℕ) → is_graphic b ≡ true → IsNameByte b
-unfolding is_graphic
+pub graphic_plain : (b : ℕ) → is_name_byte b ≡ true → IsNameByte b
 graphic_plain b h = grind (arith, nat_tests)
 
-either : (a b : Bool) → (a || b) ≡ true → b ≡ false → a ≡ true
+pub either : (a b : Bool) → (a || b) ≡ true → b ≡ false → a ≡ true
 either true b h k = refl
 either false b h k = absurd cc
 
@@ -42,7 +42,7 @@ escaped_begins mode b h k = graphic_plain b (sym (ap (λ (m : Mode). goes_on m b
 
 -- a byte that goes on an escaped name
 pub escaped_goes : (mode : Mode) (name : List ℕ) (b : ℕ) → mode ≡ InEscaped name → goes_on mode b ≡ true → is_odd b ≡ false → IsNameByte b
-escaped_goes mode name b h k odd = graphic_plain b (either (is_graphic b) (is_odd b) (sym (ap (λ (m : Mode). goes_on m b) h) ∙ k) odd)
+escaped_goes mode name b h k odd = graphic_plain b (either (is_name_byte b) (is_odd b) (sym (ap (λ (m : Mode). goes_on m b) h) ∙ k) odd)
 
 -- ---- line feeds
 
@@ -103,16 +103,16 @@ pub single_feed : (b : ℕ) (mark : Mark) → class_of b ≡ class.Single mark �
 unfolding class_of feed
 single_feed b mark h = grind (arith, nat_tests)
 
-pub word_feed : (b : ℕ) → is_word b ≡ true → feed b ≡ 0
-unfolding is_word feed
+pub word_feed : (b : ℕ) → is_word_byte b ≡ true → feed b ≡ 0
+unfolding feed
 word_feed b h = grind (arith, nat_tests)
 
 pub number_feed : (b : ℕ) → is_number b ≡ true → feed b ≡ 0
 unfolding is_number feed
 number_feed b h = grind (arith, nat_tests)
 
-pub graphic_feed : (b : ℕ) → is_graphic b ≡ true → feed b ≡ 0
-unfolding is_graphic feed
+pub graphic_feed : (b : ℕ) → is_name_byte b ≡ true → feed b ≡ 0
+unfolding feed
 graphic_feed b h = grind (arith, nat_tests)
 
 pub constant_feed : (b : ℕ) → is_constant b ≡ true → feed b ≡ 0
@@ -127,7 +127,7 @@ pub base_feed : (b : ℕ) (base : Base) → base_of b ≡ Some base → feed b �
 unfolding base_of feed
 base_feed b base h = grind (arith, nat_tests)
 
-pub inside_feed : (b : ℕ) → is_inside b ≡ true → feed b ≡ 0
+pub inside_feed : (b : ℕ) → is_in_line b ≡ true → feed b ≡ 0
 unfolding feed
 inside_feed b h = grind (arith, nat_tests)
 
@@ -217,12 +217,8 @@ pub caret_is : class_of 94 ≡ class.Caret
 unfolding class_of
 caret_is = refl
 
-pub odd_no_graphic : (b : ℕ) → is_odd b ≡ true → is_graphic b ≡ false
-unfolding is_odd is_graphic
-odd_no_graphic b h = grind (arith, nat_tests)
-
-pub graphic_no_odd : (b : ℕ) → is_graphic b ≡ true → is_odd b ≡ false
-unfolding is_odd is_graphic
+pub graphic_no_odd : (b : ℕ) → is_name_byte b ≡ true → is_odd b ≡ false
+unfolding is_odd
 graphic_no_odd b h = grind (arith, nat_tests)
 
 pub or_true : (a : Bool) → (a || true) ≡ true

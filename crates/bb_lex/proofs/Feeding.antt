@@ -5,40 +5,36 @@ use Rattle.bb_lex.specs.declared.fault.LexFault.{LexFault}
 use Rattle.bb_lex.specs.declared.fault.LexFault.TheVariants as faults
 use Rattle.bb_lex.specs.declared.token.Token.{Token}
 use Rattle.bb_lex.specs.Bytes.{class_of}
-use Rattle.bb_lex.specs.Machine.{Mode, Failed, Machine, at, Action, Goes, Gives, Ending, Ends, Spells, Breaks, ending, going, opened, act, close_as, goes_on, more, begin, begin_by, step, run, close, told, Stands, after_tokens}
+use Rattle.bb_lex.specs.Machine.{Mode, Failed, Machine, at, Action, Goes, Gives, Ending, Ends, Spells, Breaks, ending, going, begun_by, act, close_as, goes_on, more, begin, begin_by, step, run, close, told, IsKept, Stands, after_tokens}
 
--- later tokens come after those so far
-abbrev pub Extends : List Token → List Token → Type 0
-Extends old new = (rest : List Token) × (new ≡ old ++ rest)
-
-same : (tokens : List Token) → Extends tokens tokens
+pub same : (tokens : List Token) → IsKept tokens tokens
 same tokens = ([], sym (append-nil tokens))
 
-then : (a b c : List Token) → Extends a b → Extends b c → Extends a c
+pub then : (a b c : List Token) → IsKept a b → IsKept b c → IsKept a c
 then a b c p q = (p.0 ++ q.0, q.1 ∙ ap (λ (x : List Token). x ++ q.0) p.1 ∙ append_assoc a p.0 q.0)
 
-act_extends : (a : Action) (line : ℕ) (tokens : List Token) → Extends tokens (act a line tokens).tokens
+act_extends : (a : Action) (line : ℕ) (tokens : List Token) → IsKept tokens (act a line tokens).tokens
 act_extends (Goes mode after) line tokens = same tokens
 act_extends (Gives kind) line tokens = (_, refl)
 
-close_extends : (e : Ending) (line : ℕ) (tokens : List Token) → Extends tokens (close_as e line tokens).tokens
+close_extends : (e : Ending) (line : ℕ) (tokens : List Token) → IsKept tokens (close_as e line tokens).tokens
 close_extends Ends line tokens = same tokens
 close_extends (Spells kind) line tokens = (_, refl)
 close_extends (Breaks fault) line tokens = same tokens
 
-begin_extends : (mode : Mode) (c : Class) (b line : ℕ) (tokens : List Token) → Extends tokens (begin_by mode c b line tokens).tokens
+begin_extends : (mode : Mode) (c : Class) (b line : ℕ) (tokens : List Token) → IsKept tokens (begin_by mode c b line tokens).tokens
 begin_extends (Failed fault) c b line tokens = same tokens
-begin_extends mode c b line tokens = act_extends (opened c b line) line tokens
+begin_extends mode c b line tokens = act_extends (begun_by c b line) line tokens
 
-step_extends : (m : Machine) (b : ℕ) → Extends m.tokens (step m b).tokens
+step_extends : (m : Machine) (b : ℕ) → IsKept m.tokens (step m b).tokens
 step_extends m b = by (goes_on m.now.mode b)
   where
-    by : (t : Bool) → Extends m.tokens (cond t (more b m) (begin (class_of b) b (close m))).tokens
+    by : (t : Bool) → IsKept m.tokens (cond t (more b m) (begin (class_of b) b (close m))).tokens
     by true = act_extends (going m.now.mode b m.now.line) m.now.line m.tokens
     by false = then m.tokens (close m).tokens (begin (class_of b) b (close m)).tokens (close_extends (ending m.now.mode m.now.line) m.now.line m.tokens) (begin_extends (close m).now.mode (class_of b) b (close m).now.line (close m).tokens)
 
 -- a run keeps the tokens that were there
-pub run_extends : (m : Machine) (bytes : List ℕ) → Extends m.tokens (run m bytes).tokens
+pub run_extends : (m : Machine) (bytes : List ℕ) → IsKept m.tokens (run m bytes).tokens
 run_extends m [] = same m.tokens
 run_extends m (b ∷ bytes) = then m.tokens (step m b).tokens (run m (b ∷ bytes)).tokens (step_extends m b) (run_extends (step m b) bytes)
 
@@ -123,7 +119,7 @@ close_shift ts m = close_as_shift ts (ending m.now.mode m.now.line) m.now.line m
 
 begin_shift : (ts : List Token) (mode : Mode) (c : Class) (b line : ℕ) (tokens : List Token) → begin_by mode c b line (ts ++ tokens) ≡ after_tokens ts (begin_by mode c b line tokens)
 begin_shift ts (Failed fault) c b line tokens = refl
-begin_shift ts mode c b line tokens = act_shift ts (opened c b line) line tokens
+begin_shift ts mode c b line tokens = act_shift ts (begun_by c b line) line tokens
 
 step_shift : (ts : List Token) (m : Machine) (b : ℕ) → step (after_tokens ts m) b ≡ after_tokens ts (step m b)
 step_shift ts m b = by (goes_on m.now.mode b)

@@ -11,10 +11,12 @@ use Rattle.bb_lex.specs.declared.lexer.Place.{Place}
 use Rattle.bb_lex.specs.declared.lexer.Place.TheVariants.{Outside, InString, Slashed}
 use Rattle.bb_lex.specs.declared.fault.LexFault.{LexFault}
 use Rattle.bb_lex.specs.declared.token.Token.{Token}
-use Rattle.bb_lex.specs.Bytes.{between, class_of, is_word, is_number, is_constant, is_graphic, is_odd, is_sign, base_of, is_digit, is_digit_or_low, AllOf, begins, feeds}
+use Rattle.bb_base.specs.Name.{is_name_byte}
+use Rattle.bb_base.specs.Words.{is_word_byte}
+use Rattle.bb_lex.specs.Bytes.{between, class_of, is_number, is_constant, is_odd, is_sign, base_of, is_digit, is_digit_or_low, AllOf, begins, feeds}
 use Rattle.bb_lex.specs.Fences.{opener, closer, place_after, shown, outside, has_close, is_closed}
 use Rattle.bb_lex.specs.Machine.{run, start, Closes}
-use Rattle.bb_lex.specs.Text.{number, is_inside, starts_with, timescale, Plain, plain_text, plain_value, IsPlain, Head, head_text, size_of, IsHead, Literal, literal_text, literal_value, IsLiteral, Lexeme, Blank, LineComment, Timescale, Fenced, Word, Escaped, Digits, Constant, Paren, Tilde, Caret, TildeCaret, CaretTilde, Single, spelling, IsLexeme, text_of, Each, tokens_of, feeds_of, Flaw, Stray, StraySlash, StrayTick, StrayBackslash, CutName, LongWord, LongEscaped, LargeNumber, BadSize, NoBase, NoDigit, OddDigit, LargeConstant, Open, flaw_text, NoSign, IsFlaw, fault_of, Stops, Denotes}
+use Rattle.bb_lex.specs.Text.{number, is_in_line, starts_with, timescale, Plain, plain_text, plain_value, IsPlain, Head, head_text, head_size, IsHead, Literal, literal_text, literal_value, IsLiteral, Lexeme, Blank, LineComment, Timescale, Fenced, Word, Escaped, Digits, Constant, Paren, Tilde, Caret, TildeCaret, CaretTilde, Single, spelling, IsLexeme, text_of, Each, tokens_of, feeds_of, Flaw, Stray, StraySlash, StrayTick, StrayBackslash, CutName, LongWord, LongEscaped, LargeNumber, BadSize, NoBase, NoDigit, OddDigit, LargeConstant, Open, flaw_text, NoSign, IsFlaw, fault_of, IsEnd, Denotes}
 use Rattle.bb_lex.proofs.ByteLemmas.{or_true, and_true, both_false}
 use Rattle.bb_lex.proofs.Spelled.{denoted_gives}
 
@@ -75,7 +77,7 @@ record Front (text : List ℕ) : Type 0 where
 
 -- a lexeme at the front, or what comes after all
 abbrev Starts : ℕ → List ℕ → Type 0
-Starts n text = Front text ⊎ ((end : Result ℕ LexFault) × Stops n text end)
+Starts n text = Front text ⊎ ((end : Result ℕ LexFault) × IsEnd n text end)
 
 fronted : (n : ℕ) (text : List ℕ) (l : Lexeme) (after : List ℕ) → text ≡ spelling l ++ after → IsLexeme l after → 1 ≤ length (spelling l) → Starts n text
 fronted n text l after e h k = inl (record { lexeme = l; after = after; parts = e; is = h; shorter = omega (arith, ap length e, length-append (spelling l) after) })
@@ -85,7 +87,7 @@ flawed n text f after e h = inr (Err (fault_of f (number n)), record { flaw = f;
 
 -- ---- names
 
-word_front : (n b : ℕ) (bytes : List ℕ) → class_of b ≡ class.Letter → Split is_word bytes → Starts n (b ∷ bytes)
+word_front : (n b : ℕ) (bytes : List ℕ) → class_of b ≡ class.Letter → Split is_word_byte bytes → Starts n (b ∷ bytes)
 word_front n b bytes h s = by (cases_lt 1024 (length (b ∷ s.front)))
   where
     e : b ∷ bytes ≡ b ∷ (s.front ++ s.back)
@@ -95,23 +97,23 @@ word_front n b bytes h s = by (cases_lt 1024 (length (b ∷ s.front)))
     by (inl lt) = flawed n (b ∷ bytes) (LongWord b s.front) s.back e (h, s.each, s.stop, lt)
     by (inr le) = fronted n (b ∷ bytes) (Word b s.front) s.back e (h, s.each, s.stop, le) (omega arith)
 
-escaped_by : (n first : ℕ) (front back bytes : List ℕ) → bytes ≡ first ∷ (front ++ back) → AllOf is_graphic (first ∷ front) → begins is_graphic back ≡ false → begins is_odd back ≡ false → Starts n (92 ∷ bytes)
+escaped_by : (n first : ℕ) (front back bytes : List ℕ) → bytes ≡ first ∷ (front ++ back) → AllOf is_name_byte (first ∷ front) → begins is_name_byte back ≡ false → begins is_odd back ≡ false → Starts n (92 ∷ bytes)
 escaped_by n first front back bytes p g e o = by (cases_lt 1024 (length (first ∷ front)))
   where
     by : (1024 < length (first ∷ front)) ⊎ (length (first ∷ front) ≤ 1024) → Starts n (92 ∷ bytes)
     by (inl lt) = flawed n (92 ∷ bytes) (LongEscaped first front) back (ap (λ (x : List ℕ). 92 ∷ x) p) (g, e, o, lt)
     by (inr le) = fronted n (92 ∷ bytes) (Escaped first front) back (ap (λ (x : List ℕ). 92 ∷ x) p) (g, e, o, le) (omega arith)
 
-cut_by : (n first : ℕ) (front back bytes : List ℕ) → bytes ≡ first ∷ (front ++ back) → AllOf is_graphic (first ∷ front) → begins is_odd back ≡ true → Starts n (92 ∷ bytes)
+cut_by : (n first : ℕ) (front back bytes : List ℕ) → bytes ≡ first ∷ (front ++ back) → AllOf is_name_byte (first ∷ front) → begins is_odd back ≡ true → Starts n (92 ∷ bytes)
 cut_by n first front [] bytes p g o = absurd cc
 cut_by n first front (odd ∷ rest) bytes p g o =
     flawed n (92 ∷ bytes) (CutName first front odd) rest (ap (λ (x : List ℕ). 92 ∷ x) p ∙ ap (λ (x : List ℕ). 92 ∷ first ∷ x) (sym (append_assoc front (odd ∷ []) rest))) (g, o)
 
-escaped_front : (n : ℕ) (bytes : List ℕ) → Split is_graphic bytes → Starts n (92 ∷ bytes)
+escaped_front : (n : ℕ) (bytes : List ℕ) → Split is_name_byte bytes → Starts n (92 ∷ bytes)
 escaped_front n bytes s = by s.front s.back s.parts s.each s.stop
   where
-    by : (front back : List ℕ) → bytes ≡ front ++ back → AllOf is_graphic front → begins is_graphic back ≡ false → Starts n (92 ∷ bytes)
-    by [] back p g e = flawed n (92 ∷ bytes) StrayBackslash bytes refl (ap (begins is_graphic) p ∙ e)
+    by : (front back : List ℕ) → bytes ≡ front ++ back → AllOf is_name_byte front → begins is_name_byte back ≡ false → Starts n (92 ∷ bytes)
+    by [] back p g e = flawed n (92 ∷ bytes) StrayBackslash bytes refl (ap (begins is_name_byte) p ∙ e)
     by (first ∷ front) back p g e = odd (begins is_odd back) refl
       where
         odd : (t : Bool) → begins is_odd back ≡ t → Starts n (92 ∷ bytes)
@@ -121,9 +123,9 @@ escaped_front n bytes s = by s.front s.back s.parts s.each s.stop
 -- ---- numbers and constants
 
 value_front : (n : ℕ) (text : List ℕ) (l : Literal) (back : List ℕ) → text ≡ literal_text l ++ back → IsLiteral l → begins is_constant back ≡ false → Starts n text
-value_front n text l back e h k = by (cases_lt (literal_value l) (2 ^ size_of l.head))
+value_front n text l back e h k = by (cases_lt (literal_value l) (2 ^ head_size l.head))
   where
-    by : (literal_value l < 2 ^ size_of l.head) ⊎ (2 ^ size_of l.head ≤ literal_value l) → Starts n text
+    by : (literal_value l < 2 ^ head_size l.head) ⊎ (2 ^ head_size l.head ≤ literal_value l) → Starts n text
     by (inl lt) = fronted n text (Constant l) back e (h, k, lt) (omega (arith, length-append (head_text l.head) (l.letter ∷ l.first ∷ l.more)))
     by (inr le) = flawed n text (LargeConstant l) back e (h, k, le)
 
@@ -245,7 +247,7 @@ fence_front n fence bytes (inl none) = flawed n (opener fence ∷ 42 ∷ bytes) 
 fence_front n fence bytes (inr f) = fronted n (opener fence ∷ 42 ∷ bytes) (Fenced fence f.body) f.after
     (ap (λ (x : List ℕ). opener fence ∷ 42 ∷ x) (f.parts ∙ sym (append_assoc f.body (42 ∷ closer fence ∷ []) f.after))) (f.before, f.closed) (omega arith)
 
-line_front : (n : ℕ) (bytes : List ℕ) → Split is_inside bytes → Starts n (47 ∷ 47 ∷ bytes)
+line_front : (n : ℕ) (bytes : List ℕ) → Split is_in_line bytes → Starts n (47 ∷ 47 ∷ bytes)
 line_front n bytes s = fronted n (47 ∷ 47 ∷ bytes) (LineComment s.front) s.back (ap (λ (x : List ℕ). 47 ∷ 47 ∷ x) s.parts) (s.each, s.stop) (omega arith)
 
 slash_front : (n : ℕ) (bytes : List ℕ) → Starts n (47 ∷ bytes)
@@ -253,7 +255,7 @@ slash_front n [] = flawed n (47 ∷ []) StraySlash [] refl (refl, refl)
 slash_front n (c ∷ bytes) = by (c == 47) (c == 42) refl refl
   where
     by : (s t : Bool) → (c == 47) ≡ s → (c == 42) ≡ t → Starts n (47 ∷ c ∷ bytes)
-    by true t e f = subst (λ (x : ℕ). Starts n (47 ∷ x ∷ bytes)) (sym (same_is c 47 e)) (line_front n bytes (split is_inside bytes))
+    by true t e f = subst (λ (x : ℕ). Starts n (47 ∷ x ∷ bytes)) (sym (same_is c 47 e)) (line_front n bytes (split is_in_line bytes))
     by false true e f = subst (λ (x : ℕ). Starts n (47 ∷ x ∷ bytes)) (sym (same_is c 42 f)) (fence_front n Comment bytes (find_close Comment Outside bytes))
     by false false e f = flawed n (47 ∷ c ∷ bytes) StraySlash (c ∷ bytes) refl (e, f)
 
@@ -275,7 +277,7 @@ behind (c ∷ cs) (b ∷ bytes) h =
     let e : b ≡ c = same_is b c p.0 in
     (r.0, ap (λ (x : List ℕ). b ∷ x) r.1 ∙ ap (λ (x : ℕ). x ∷ (cs ++ r.0)) e)
 
-timescale_front : (n : ℕ) (bytes after : List ℕ) → bytes ≡ timescale ++ after → Split is_inside after → Starts n (96 ∷ bytes)
+timescale_front : (n : ℕ) (bytes after : List ℕ) → bytes ≡ timescale ++ after → Split is_in_line after → Starts n (96 ∷ bytes)
 timescale_front n bytes after e s = fronted n (96 ∷ bytes) (Timescale s.front) s.back
     (ap (λ (x : List ℕ). 96 ∷ x) (e ∙ ap (λ (x : List ℕ). timescale ++ x) s.parts ∙ sym (append_assoc timescale s.front s.back))) (s.each, s.stop) (omega arith)
 
@@ -283,7 +285,7 @@ tick_front : (n : ℕ) (bytes : List ℕ) → Starts n (96 ∷ bytes)
 tick_front n bytes = by (starts_with timescale bytes) refl
   where
     by : (t : Bool) → starts_with timescale bytes ≡ t → Starts n (96 ∷ bytes)
-    by true e = let r = behind timescale bytes e in timescale_front n bytes r.0 r.1 (split is_inside r.0)
+    by true e = let r = behind timescale bytes e in timescale_front n bytes r.0 r.1 (split is_in_line r.0)
     by false e = flawed n (96 ∷ bytes) StrayTick bytes refl e
 
 -- ---- marks
@@ -307,11 +309,11 @@ caret_front n (c ∷ bytes) = by (c == 126) refl
 -- ---- whole texts
 
 starts_by : (n b : ℕ) (bytes : List ℕ) (c : Class) → class_of b ≡ c → Starts n (b ∷ bytes)
-starts_by n b bytes class.Letter h = word_front n b bytes h (split is_word bytes)
+starts_by n b bytes class.Letter h = word_front n b bytes h (split is_word_byte bytes)
 starts_by n b bytes class.Digit h = digit_front n b bytes h (split is_number bytes)
 starts_by n b bytes class.Blank h = fronted n (b ∷ bytes) (Blank b) bytes refl h (omega arith)
 starts_by n b bytes class.Slash h = subst (λ (x : ℕ). Starts n (x ∷ bytes)) (sym (slash_only b h)) (slash_front n bytes)
-starts_by n b bytes class.Backslash h = subst (λ (x : ℕ). Starts n (x ∷ bytes)) (sym (backslash_only b h)) (escaped_front n bytes (split is_graphic bytes))
+starts_by n b bytes class.Backslash h = subst (λ (x : ℕ). Starts n (x ∷ bytes)) (sym (backslash_only b h)) (escaped_front n bytes (split is_name_byte bytes))
 starts_by n b bytes class.Tick h = subst (λ (x : ℕ). Starts n (x ∷ bytes)) (sym (tick_only b h)) (tick_front n bytes)
 starts_by n b bytes class.Paren h = subst (λ (x : ℕ). Starts n (x ∷ bytes)) (sym (paren_only b h)) (paren_front n bytes)
 starts_by n b bytes class.Tilde h = subst (λ (x : ℕ). Starts n (x ∷ bytes)) (sym (tilde_only b h)) (tilde_front n bytes)
@@ -330,7 +332,7 @@ record Reading (n : ℕ) (text : List ℕ) : Type 0 where
   end : Result ℕ LexFault
   spelt : text ≡ text_of lexemes last
   each : Each lexemes last
-  stops : Stops (feeds_of n lexemes) last end
+  stops : IsEnd (feeds_of n lexemes) last end
 
 with_lexeme : (n : ℕ) (text : List ℕ) (f : Front text) → Reading (n + feeds (spelling f.lexeme)) f.after → Reading n text
 with_lexeme n text f r = record {

@@ -13,10 +13,12 @@ use Rattle.bb_lex.specs.declared.lexer.Place.TheVariants.{Outside, InString, Sla
 use Rattle.bb_lex.specs.declared.fault.LexFault.{LexFault}
 use Rattle.bb_lex.specs.declared.fault.LexFault.TheVariants as faults
 use Rattle.bb_lex.specs.declared.token.Token.{Token}
-use Rattle.bb_lex.specs.Bytes.{between, class_of, is_word, is_number, is_graphic, is_odd, is_sign, base_of, is_base, radix_of, digit_of, is_digit_or_low, with_digit, value, AllOf, begins, feed, feeds, line_after}
+use Rattle.bb_base.specs.Name.{is_name_byte}
+use Rattle.bb_base.specs.Words.{is_word_byte}
+use Rattle.bb_lex.specs.Bytes.{between, class_of, is_number, is_odd, is_sign, base_of, is_base, radix_of, digit_of, is_digit_or_low, with_digit, value, AllOf, begins, feed, feeds, line_after}
 use Rattle.bb_lex.specs.Fences.{closer, place_after, shown, outside, has_close}
-use Rattle.bb_lex.specs.Machine.{Between, InName, InNumber, AtQuote, AtBase, InConstant, AtTick, InLine, InFence, AtBackslash, InEscaped, Failed, Machine, at, number_limit, constant_limit, grown, tick_byte, goes_on, Goes, quoted, based, Ending, Ends, Spells, Breaks, is_short, ending, opened, act, close_as, close, begin, more, step, run, answer_by, Closes}
-use Rattle.bb_lex.specs.Text.{number, is_inside, starts_with, timescale, Plain, plain_text, plain_value, IsPlain, Head, head_text, size_of, IsSign, IsHead, Literal, literal_text, literal_value, IsLiteral}
+use Rattle.bb_lex.specs.Machine.{Between, InName, InNumber, AtQuote, AtBase, InConstant, AtTick, InLine, InFence, AtBackslash, InEscaped, Failed, Machine, at, number_limit, constant_limit, grown, tick_byte, goes_on, Goes, quoted, based, Ending, Ends, Spells, Breaks, is_short, ending, begun_by, act, close_as, close, begin, more, step, run, answer_by, Closes}
+use Rattle.bb_lex.specs.Text.{number, is_in_line, starts_with, timescale, Plain, plain_text, plain_value, IsPlain, Head, head_text, head_size, IsSign, IsHead, Literal, literal_text, literal_value, IsLiteral}
 use Rattle.bb_lex.proofs.ByteLemmas.{feed_star, digit_capped, figure_capped, number_no_quote, radix_least, figure_goes, sign_no_base, graphic_no_odd, or_true, or_false}
 use Rattle.bb_lex.proofs.CappedLemmas.{capped_step}
 use Rattle.bb_lex.proofs.Feeding.{on, off}
@@ -40,8 +42,8 @@ ends m (b ∷ after) h = ap (λ (x : Machine). close (run x after)) (off m b h �
 
 -- what a byte of a known class begins
 pub begins_as : (c : Class) (b : ℕ) (text : List ℕ) (line : ℕ) (tokens : List Token) → class_of b ≡ c
-    → run (at Between line tokens) (b ∷ text) ≡ run (act (opened c b line) line tokens) text
-begins_as c b text line tokens h = ap (λ (x : Class). run (act (opened x b line) line tokens) text) h
+    → run (at Between line tokens) (b ∷ text) ≡ run (act (begun_by c b line) line tokens) text
+begins_as c b text line tokens h = ap (λ (x : Class). run (act (begun_by x b line) line tokens) text) h
 
 -- a byte that is part of what has begun
 pub goes : (m : Machine) (b : ℕ) (text : List ℕ) → goes_on m.now.mode b ≡ true → run m (b ∷ text) ≡ run (more b m) text
@@ -95,7 +97,7 @@ kept_step bytes b = by (cases_lt (length bytes) 1025)
         grown_if (kept bytes) b false (not_less (length (kept bytes)) 1025 (omega arith)) ∙ sym (take-append-le 1025 bytes (b ∷ []) le)
 
 -- a simple name with more bytes of it
-pub word_run : (bytes rest after : List ℕ) (line : ℕ) (tokens : List Token) → AllOf is_word rest
+pub word_run : (bytes rest after : List ℕ) (line : ℕ) (tokens : List Token) → AllOf is_word_byte rest
     → run (at (InName (kept bytes)) line tokens) (rest ++ after) ≡ run (at (InName (kept (bytes ++ rest))) line tokens) after
 word_run bytes [] after line tokens h = ap (λ (x : List ℕ). run (at (InName (kept x)) line tokens) after) (sym (append-nil bytes))
 word_run bytes (b ∷ rest) after line tokens h = goes (at (InName (kept bytes)) line tokens) b (rest ++ after) h.0
@@ -103,12 +105,12 @@ word_run bytes (b ∷ rest) after line tokens h = goes (at (InName (kept bytes))
     ∙ word_run (bytes ++ b ∷ []) rest after line tokens h.1
     ∙ ap (λ (x : List ℕ). run (at (InName (kept x)) line tokens) after) (append_assoc bytes (b ∷ []) rest)
 
-escaped_step : (bytes : List ℕ) (b line : ℕ) (tokens : List Token) → is_graphic b ≡ true → step (at (InEscaped bytes) line tokens) b ≡ at (InEscaped (grown bytes b)) line tokens
+escaped_step : (bytes : List ℕ) (b line : ℕ) (tokens : List Token) → is_name_byte b ≡ true → step (at (InEscaped bytes) line tokens) b ≡ at (InEscaped (grown bytes b)) line tokens
 escaped_step bytes b line tokens h = on (at (InEscaped bytes) line tokens) b (ap (λ (t : Bool). t || is_odd b) h)
     ∙ ap (λ (t : Bool). at (cond t (Failed (faults.BadByte line)) (InEscaped (grown bytes b))) line tokens) (graphic_no_odd b h)
 
 -- an escaped name with more bytes of it
-pub escaped_run : (bytes rest after : List ℕ) (line : ℕ) (tokens : List Token) → AllOf is_graphic rest
+pub escaped_run : (bytes rest after : List ℕ) (line : ℕ) (tokens : List Token) → AllOf is_name_byte rest
     → run (at (InEscaped (kept bytes)) line tokens) (rest ++ after) ≡ run (at (InEscaped (kept (bytes ++ rest))) line tokens) after
 escaped_run bytes [] after line tokens h = ap (λ (x : List ℕ). run (at (InEscaped (kept x)) line tokens) after) (sym (append-nil bytes))
 escaped_run bytes (b ∷ rest) after line tokens h = ap (λ (m : Machine). run m (rest ++ after)) (escaped_step (kept bytes) b line tokens h.0)
@@ -117,18 +119,18 @@ escaped_run bytes (b ∷ rest) after line tokens h = ap (λ (m : Machine). run m
     ∙ ap (λ (x : List ℕ). run (at (InEscaped (kept x)) line tokens) after) (append_assoc bytes (b ∷ []) rest)
 
 -- an escaped name from its backslash on
-pub begin_escaped : (first : ℕ) (rest after : List ℕ) (line : ℕ) (tokens : List Token) → AllOf is_graphic (first ∷ rest)
+pub begin_escaped : (first : ℕ) (rest after : List ℕ) (line : ℕ) (tokens : List Token) → AllOf is_name_byte (first ∷ rest)
     → run (at AtBackslash line tokens) (first ∷ (rest ++ after)) ≡ run (at (InEscaped (kept (first ∷ rest))) line tokens) after
 begin_escaped first rest after line tokens h = goes (at AtBackslash line tokens) first (rest ++ after) h.0 ∙ escaped_run (first ∷ []) rest after line tokens h.1
 
 -- an escaped name goes on with no white space
-pub escaped_off : (after bytes : List ℕ) → begins is_graphic after ≡ false → begins is_odd after ≡ false → begins (goes_on (InEscaped bytes)) after ≡ false
+pub escaped_off : (after bytes : List ℕ) → begins is_name_byte after ≡ false → begins is_odd after ≡ false → begins (goes_on (InEscaped bytes)) after ≡ false
 escaped_off [] bytes h k = refl
 escaped_off (b ∷ after) bytes h k = ap (λ (t : Bool). t || is_odd b) h ∙ k
 
 -- an odd byte cuts an escaped name off
 pub odd_step : (bytes : List ℕ) (b line : ℕ) (tokens : List Token) → is_odd b ≡ true → step (at (InEscaped bytes) line tokens) b ≡ at (Failed (faults.BadByte line)) line tokens
-odd_step bytes b line tokens h = on (at (InEscaped bytes) line tokens) b (ap (λ (t : Bool). is_graphic b || t) h ∙ or_true (is_graphic b))
+odd_step bytes b line tokens h = on (at (InEscaped bytes) line tokens) b (ap (λ (t : Bool). is_name_byte b || t) h ∙ or_true (is_name_byte b))
     ∙ ap (λ (t : Bool). at (cond t (Failed (faults.BadByte line)) (InEscaped (grown bytes b))) line tokens) h
 
 -- a name that isn't too long is kept whole
@@ -203,14 +205,14 @@ size_kept n h = grind (arith, nat_tests)
 
 -- the front of a constant
 pub head_goes : (h : Head) (rest : List ℕ) (line : ℕ) (tokens : List Token) → IsHead h
-    → run (at Between line tokens) (head_text h ++ rest) ≡ run (at (AtQuote (is_signed h.sign) (size_of h)) line tokens) rest
+    → run (at Between line tokens) (head_text h ++ rest) ≡ run (at (AtQuote (is_signed h.sign) (head_size h)) line tokens) rest
 head_goes h rest line tokens k =
     ap (run (at Between line tokens)) (append_assoc (plain_text h.size) (39 ∷ h.sign) rest)
     ∙ plain_goes h.size (39 ∷ (h.sign ++ rest)) line tokens k.plain
-    ∙ ap (λ (x : ℕ). run (at (InNumber x) line tokens) (39 ∷ (h.sign ++ rest))) (size_kept (size_of h) k.in_range)
-    ∙ quote_goes (size_of h) (h.sign ++ rest) line tokens
-    ∙ ap (λ (t : Bool). run (at (cond t (AtQuote false (size_of h)) (Failed (faults.BadNumber line))) line tokens) (h.sign ++ rest)) k.in_range
-    ∙ sign_goes h.sign rest (size_of h) line tokens k.sign
+    ∙ ap (λ (x : ℕ). run (at (InNumber x) line tokens) (39 ∷ (h.sign ++ rest))) (size_kept (head_size h) k.in_range)
+    ∙ quote_goes (head_size h) (h.sign ++ rest) line tokens
+    ∙ ap (λ (t : Bool). run (at (cond t (AtQuote false (head_size h)) (Failed (faults.BadNumber line))) line tokens) (h.sign ++ rest)) k.in_range
+    ∙ sign_goes h.sign rest (head_size h) line tokens k.sign
 
 -- the letter of a constant's base
 pub letter_goes : (signed : Bool) (size letter : ℕ) (base : Base) (rest : List ℕ) (line : ℕ) (tokens : List Token) → base_of letter ≡ Some base
@@ -232,19 +234,19 @@ constant_run size base n (b ∷ rest) after line tokens h = ap (λ (m : Machine)
 
 -- a constant
 pub literal_goes : (l : Literal) (rest : List ℕ) (line : ℕ) (tokens : List Token) → IsLiteral l
-    → run (at Between line tokens) (literal_text l ++ rest) ≡ run (at (InConstant (size_of l.head) l.base (min (literal_value l) constant_limit)) line tokens) rest
+    → run (at Between line tokens) (literal_text l ++ rest) ≡ run (at (InConstant (head_size l.head) l.base (min (literal_value l) constant_limit)) line tokens) rest
 literal_goes l rest line tokens h =
     ap (run (at Between line tokens)) (append_assoc (head_text l.head) (l.letter ∷ l.first ∷ l.more) rest)
     ∙ head_goes l.head (l.letter ∷ l.first ∷ (l.more ++ rest)) line tokens h.head
-    ∙ letter_goes (is_signed l.head.sign) (size_of l.head) l.letter l.base (l.first ∷ (l.more ++ rest)) line tokens h.base
-    ∙ goes (at (AtBase (size_of l.head) l.base) line tokens) l.first (l.more ++ rest) h.digit
-    ∙ ap (λ (x : ℕ). run (at (InConstant (size_of l.head) l.base x) line tokens) (l.more ++ rest)) (figure_capped l.first)
-    ∙ constant_run (size_of l.head) l.base (digit_of l.first) l.more rest line tokens h.digits
+    ∙ letter_goes (is_signed l.head.sign) (head_size l.head) l.letter l.base (l.first ∷ (l.more ++ rest)) line tokens h.base
+    ∙ goes (at (AtBase (head_size l.head) l.base) line tokens) l.first (l.more ++ rest) h.digit
+    ∙ ap (λ (x : ℕ). run (at (InConstant (head_size l.head) l.base x) line tokens) (l.more ++ rest)) (figure_capped l.first)
+    ∙ constant_run (head_size l.head) l.base (digit_of l.first) l.more rest line tokens h.digits
 
 -- ---- lines
 
 -- a comment to the line's end
-pub line_run : (body after : List ℕ) (line : ℕ) (tokens : List Token) → AllOf is_inside body → run (at InLine line tokens) (body ++ after) ≡ run (at InLine line tokens) after
+pub line_run : (body after : List ℕ) (line : ℕ) (tokens : List Token) → AllOf is_in_line body → run (at InLine line tokens) (body ++ after) ≡ run (at InLine line tokens) after
 line_run [] after line tokens h = refl
 line_run (b ∷ body) after line tokens h = goes (at InLine line tokens) b (body ++ after) h.0 ∙ line_run body after line tokens h.1
 

@@ -13,11 +13,13 @@ use Rattle.bb_lex.specs.declared.token.Mark.TheVariants as marks
 use Rattle.bb_lex.specs.declared.token.TokenKind.{TokenKind}
 use Rattle.bb_lex.specs.declared.token.TokenKind.TheVariants as kinds
 use Rattle.bb_lex.specs.declared.token.Token.{Token}
-use Rattle.bb_lex.specs.Bytes.{between, class_of, is_word, is_number, is_graphic, is_sign, is_base, radix_of, is_digit_or_low, with_digit, AllOf, begins, feed, feeds}
+use Rattle.bb_base.specs.Name.{is_name_byte}
+use Rattle.bb_base.specs.Words.{is_word_byte}
+use Rattle.bb_lex.specs.Bytes.{between, class_of, is_number, is_sign, is_base, radix_of, is_digit_or_low, with_digit, AllOf, begins, feed, feeds}
 use Rattle.bb_lex.specs.Keywords.{word_kind}
 use Rattle.bb_lex.specs.Fences.{opener, closer}
 use Rattle.bb_lex.specs.Machine.{Between, InName, InNumber, AtQuote, AtBase, InConstant, AtTilde, AtCaret, AtParen, AtSlash, AtTick, InLine, InFence, AtBackslash, InEscaped, Failed, Machine, at, one, number_limit, constant_limit, goes_on, checked, is_short, close_as, close, run, answer_by, start, Closes}
-use Rattle.bb_lex.specs.Text.{number, is_inside, timescale, Plain, plain_text, plain_value, IsPlain, Head, head_text, size_of, IsSign, IsHead, Literal, literal_text, literal_value, IsLiteral, Lexeme, Blank, LineComment, Timescale, Fenced, Word, Escaped, Digits, Constant, Paren, Tilde, Caret, TildeCaret, CaretTilde, Single, spelling, IsLexeme, kind_of, tokens_by, given, text_of, Each, tokens_of, feeds_of, Flaw, Stray, StraySlash, StrayTick, StrayBackslash, CutName, LongWord, LongEscaped, LargeNumber, BadSize, NoBase, NoDigit, OddDigit, LargeConstant, Open, flaw_text, NoSign, IsFlaw, fault_of, Stops, Denotes}
+use Rattle.bb_lex.specs.Text.{number, is_in_line, timescale, Plain, plain_text, plain_value, IsPlain, Head, head_text, head_size, IsSign, IsHead, Literal, literal_text, literal_value, IsLiteral, Lexeme, Blank, LineComment, Timescale, Fenced, Word, Escaped, Digits, Constant, Paren, Tilde, Caret, TildeCaret, CaretTilde, Single, spelling, IsLexeme, kind_of, tokens_by, token_of, text_of, Each, tokens_of, feeds_of, Flaw, Stray, StraySlash, StrayTick, StrayBackslash, CutName, LongWord, LongEscaped, LargeNumber, BadSize, NoBase, NoDigit, OddDigit, LargeConstant, Open, flaw_text, NoSign, IsFlaw, fault_of, IsEnd, Denotes}
 use Rattle.bb_lex.proofs.ByteLemmas.{slash_is, backslash_is, tick_is, paren_is, tilde_is, caret_is, feed_star, feed_slash, feed_backslash, feed_tick, feed_paren, feed_tilde, feed_caret, feed_quote, opener_feed, closer_feed, timescale_feeds, letter_feed, digit_feed, single_feed, word_feed, number_feed, graphic_feed, constant_feed, sign_feed, base_feed, inside_feed, feeds_none, feeds-append, figure_goes, digit_goes}
 use Rattle.bb_lex.proofs.Runs.{ends, begins_as, goes, closes_by, fails_by, kept, word_run, begin_escaped, escaped_off, odd_step, kept_short, short_yes, short_no, plain_goes, number_off, quote_goes, is_signed, head_goes, letter_goes, literal_goes, line_run, tick_goes, tick_fails, fed_number, fence_run, open_run}
 
@@ -51,7 +53,7 @@ fence_feeds fence body = omega (arith, opener_feed fence, feed_star, feeds-appen
 
 -- a token
 token_left : (l : Lexeme) (kind : TokenKind) (after : List ℕ) (n : ℕ) (tokens : List Token) → kind_of l ≡ Some kind → feeds (spelling l) ≡ 0
-    → close (run (at Between (number n) (tokens ++ one kind (number n))) after) ≡ close (run (at Between (number (n + feeds (spelling l))) (tokens ++ given n l)) after)
+    → close (run (at Between (number n) (tokens ++ one kind (number n))) after) ≡ close (run (at Between (number (n + feeds (spelling l))) (tokens ++ token_of n l)) after)
 token_left l kind after n tokens k f =
     let e : number n ≡ number (n + feeds (spelling l)) = omega arith in
     ap (λ (x : ℕ). close (run (at Between x (tokens ++ one kind (number n))) after)) e
@@ -59,7 +61,7 @@ token_left l kind after n tokens k f =
 
 -- nothing but its line feeds
 nothing_left : (l : Lexeme) (count : ℕ) (after : List ℕ) (n : ℕ) (tokens : List Token) → kind_of l ≡ None → feeds (spelling l) ≡ count
-    → close (run (at Between (number (n + count)) tokens) after) ≡ close (run (at Between (number (n + feeds (spelling l))) (tokens ++ given n l)) after)
+    → close (run (at Between (number (n + count)) tokens) after) ≡ close (run (at Between (number (n + feeds (spelling l))) (tokens ++ token_of n l)) after)
 nothing_left l count after n tokens k f =
     ap (λ (x : ℕ). close (run (at Between (number (n + x)) tokens) after)) (sym f)
     ∙ ap (λ (x : List Token). close (run (at Between (number (n + feeds (spelling l))) x) after)) (sym (append-nil tokens))
@@ -116,14 +118,14 @@ blank_goes b after n tokens h =
     ∙ ap (λ (x : ℕ). close (run (at Between x tokens) after)) (fed_number n b)
     ∙ nothing_left (Blank b) (feed b) after n tokens refl one_byte
 
-line_goes : (body after : List ℕ) (n : ℕ) (tokens : List Token) → AllOf is_inside body → begins is_inside after ≡ false
+line_goes : (body after : List ℕ) (n : ℕ) (tokens : List Token) → AllOf is_in_line body → begins is_in_line after ≡ false
     → close (run (at InLine (number n) tokens) (body ++ after)) ≡ close (run (at Between (number (n + 0)) tokens) after)
 line_goes body after n tokens h k = ap close (line_run body after (number n) tokens h) ∙ ends (at InLine (number n) tokens) after k ∙ same_line after n tokens
 
 comment_goes : (body after : List ℕ) (n : ℕ) (tokens : List Token) → IsLexeme (LineComment body) after
     → close (run (at Between (number n) tokens) (47 ∷ 47 ∷ (body ++ after))) ≡ close (run (at Between (number (n + feeds (47 ∷ 47 ∷ body))) (tokens ++ [])) after)
 comment_goes body after n tokens h =
-    let none : feeds (47 ∷ 47 ∷ body) ≡ 0 = omega (arith, feed_slash, feeds_none is_inside inside_feed body h.0) in
+    let none : feeds (47 ∷ 47 ∷ body) ≡ 0 = omega (arith, feed_slash, feeds_none is_in_line inside_feed body h.0) in
     ap close (begins_as class.Slash 47 (47 ∷ (body ++ after)) (number n) tokens slash_is)
     ∙ line_goes body after n tokens h.0 h.1
     ∙ nothing_left (LineComment body) 0 after n tokens refl none
@@ -131,7 +133,7 @@ comment_goes body after n tokens h =
 timescale_goes : (body after : List ℕ) (n : ℕ) (tokens : List Token) → IsLexeme (Timescale body) after
     → close (run (at Between (number n) tokens) (spelling (Timescale body) ++ after)) ≡ close (run (at Between (number (n + feeds (spelling (Timescale body)))) (tokens ++ [])) after)
 timescale_goes body after n tokens h =
-    let none : feeds (spelling (Timescale body)) ≡ 0 = omega (arith, feed_tick, feeds-append timescale body, timescale_feeds, feeds_none is_inside inside_feed body h.0) in
+    let none : feeds (spelling (Timescale body)) ≡ 0 = omega (arith, feed_tick, feeds-append timescale body, timescale_feeds, feeds_none is_in_line inside_feed body h.0) in
     ap close (begins_as class.Tick 96 ((timescale ++ body) ++ after) (number n) tokens tick_is)
     ∙ ap (λ (x : List ℕ). close (run (at (AtTick 0) (number n) tokens) x)) (append_assoc timescale body after)
     ∙ ap close (tick_goes (body ++ after) (number n) tokens)
@@ -150,28 +152,28 @@ fence_goes fence body after n tokens h =
     ∙ ap close (begin_fence fence (body ++ 42 ∷ closer fence ∷ after) (number n) tokens ∙ fence_run fence Outside false body after (number n) n tokens h.0 h.1)
     ∙ nothing_left (Fenced fence body) (feeds body) after n tokens refl (fence_feeds fence body)
 
-word_begins : (first : ℕ) (more rest : List ℕ) (line : ℕ) (tokens : List Token) → class_of first ≡ class.Letter → AllOf is_word more
+word_begins : (first : ℕ) (more rest : List ℕ) (line : ℕ) (tokens : List Token) → class_of first ≡ class.Letter → AllOf is_word_byte more
     → run (at Between line tokens) (first ∷ (more ++ rest)) ≡ run (at (InName (kept (first ∷ more))) line tokens) rest
 word_begins first more rest line tokens h k = begins_as class.Letter first (more ++ rest) line tokens h ∙ word_run (first ∷ []) more rest line tokens k
 
 word_goes : (first : ℕ) (more after : List ℕ) (n : ℕ) (tokens : List Token) → IsLexeme (Word first more) after
-    → close (run (at Between (number n) tokens) (first ∷ (more ++ after))) ≡ close (run (at Between (number (n + feeds (first ∷ more))) (tokens ++ given n (Word first more))) after)
+    → close (run (at Between (number n) tokens) (first ∷ (more ++ after))) ≡ close (run (at Between (number (n + feeds (first ∷ more))) (tokens ++ token_of n (Word first more))) after)
 word_goes first more after n tokens h =
-    let none : feeds (first ∷ more) ≡ 0 = omega (arith, letter_feed first h.0, feeds_none is_word word_feed more h.1) in
+    let none : feeds (first ∷ more) ≡ 0 = omega (arith, letter_feed first h.0, feeds_none is_word_byte word_feed more h.1) in
     ap close (word_begins first more after (number n) tokens h.0 h.1)
     ∙ ap (λ (x : List ℕ). close (run (at (InName x) (number n) tokens) after)) (kept_short (first ∷ more) h.3)
     ∙ ends (at (InName (first ∷ more)) (number n) tokens) after h.2
     ∙ checked_yes (is_short (first ∷ more)) (word_kind (first ∷ more)) (faults.LongName (number n)) after (number n) tokens (short_yes first more h.3)
     ∙ token_left (Word first more) (word_kind (first ∷ more)) after n tokens refl none
 
-escaped_begins : (first : ℕ) (more rest : List ℕ) (line : ℕ) (tokens : List Token) → AllOf is_graphic (first ∷ more)
+escaped_begins : (first : ℕ) (more rest : List ℕ) (line : ℕ) (tokens : List Token) → AllOf is_name_byte (first ∷ more)
     → run (at Between line tokens) (92 ∷ first ∷ (more ++ rest)) ≡ run (at (InEscaped (kept (first ∷ more))) line tokens) rest
 escaped_begins first more rest line tokens h = begins_as class.Backslash 92 (first ∷ (more ++ rest)) line tokens backslash_is ∙ begin_escaped first more rest line tokens h
 
 escaped_goes : (first : ℕ) (more after : List ℕ) (n : ℕ) (tokens : List Token) → IsLexeme (Escaped first more) after
-    → close (run (at Between (number n) tokens) (92 ∷ first ∷ (more ++ after))) ≡ close (run (at Between (number (n + feeds (92 ∷ first ∷ more))) (tokens ++ given n (Escaped first more))) after)
+    → close (run (at Between (number n) tokens) (92 ∷ first ∷ (more ++ after))) ≡ close (run (at Between (number (n + feeds (92 ∷ first ∷ more))) (tokens ++ token_of n (Escaped first more))) after)
 escaped_goes first more after n tokens h =
-    let none : feeds (92 ∷ first ∷ more) ≡ 0 = omega (arith, feed_backslash, feeds_none is_graphic graphic_feed (first ∷ more) h.0) in
+    let none : feeds (92 ∷ first ∷ more) ≡ 0 = omega (arith, feed_backslash, feeds_none is_name_byte graphic_feed (first ∷ more) h.0) in
     ap close (escaped_begins first more after (number n) tokens h.0)
     ∙ ap (λ (x : List ℕ). close (run (at (InEscaped x) (number n) tokens) after)) (kept_short (first ∷ more) h.3)
     ∙ ends (at (InEscaped (first ∷ more)) (number n) tokens) after (escaped_off after (first ∷ more) h.1 h.2)
@@ -182,7 +184,7 @@ number_kept : (n : ℕ) → n < 2147483648 → min n number_limit ≡ n
 number_kept n h = omega arith
 
 digits_goes : (p : Plain) (after : List ℕ) (n : ℕ) (tokens : List Token) → IsLexeme (Digits p) after
-    → close (run (at Between (number n) tokens) (plain_text p ++ after)) ≡ close (run (at Between (number (n + feeds (plain_text p))) (tokens ++ given n (Digits p))) after)
+    → close (run (at Between (number n) tokens) (plain_text p ++ after)) ≡ close (run (at Between (number (n + feeds (plain_text p))) (tokens ++ token_of n (Digits p))) after)
 digits_goes p after n tokens h =
     ap close (plain_goes p after (number n) tokens h.0)
     ∙ ap (λ (x : ℕ). close (run (at (InNumber x) (number n) tokens) after)) (number_kept (plain_value p) h.3)
@@ -191,18 +193,18 @@ digits_goes p after n tokens h =
     ∙ token_left (Digits p) (kinds.Number (plain_value p)) after n tokens refl (plain_feeds p h.0)
 
 constant_goes : (l : Literal) (after : List ℕ) (n : ℕ) (tokens : List Token) → IsLexeme (Constant l) after
-    → close (run (at Between (number n) tokens) (literal_text l ++ after)) ≡ close (run (at Between (number (n + feeds (literal_text l))) (tokens ++ given n (Constant l))) after)
+    → close (run (at Between (number n) tokens) (literal_text l ++ after)) ≡ close (run (at Between (number (n + feeds (literal_text l))) (tokens ++ token_of n (Constant l))) after)
 constant_goes l after n tokens h =
-    let f = fits_yes (literal_value l) (size_of l.head) (in_range (size_of l.head) h.0.head.in_range) h.2 in
+    let f = fits_yes (literal_value l) (head_size l.head) (in_range (head_size l.head) h.0.head.in_range) h.2 in
     ap close (literal_goes l after (number n) tokens h.0)
-    ∙ ap (λ (x : ℕ). close (run (at (InConstant (size_of l.head) l.base x) (number n) tokens) after)) f.0
-    ∙ ends (at (InConstant (size_of l.head) l.base (literal_value l)) (number n) tokens) after h.1
-    ∙ checked_yes (nat_lt (literal_value l) (2 ^ min (size_of l.head) 128)) (kinds.Const (size_of l.head) (literal_value l)) (faults.BadNumber (number n)) after (number n) tokens f.1
-    ∙ token_left (Constant l) (kinds.Const (size_of l.head) (literal_value l)) after n tokens refl (literal_feeds l h.0)
+    ∙ ap (λ (x : ℕ). close (run (at (InConstant (head_size l.head) l.base x) (number n) tokens) after)) f.0
+    ∙ ends (at (InConstant (head_size l.head) l.base (literal_value l)) (number n) tokens) after h.1
+    ∙ checked_yes (nat_lt (literal_value l) (2 ^ min (head_size l.head) 128)) (kinds.Const (head_size l.head) (literal_value l)) (faults.BadNumber (number n)) after (number n) tokens f.1
+    ∙ token_left (Constant l) (kinds.Const (head_size l.head) (literal_value l)) after n tokens refl (literal_feeds l h.0)
 
 -- a lexeme gives its token, and the run goes on behind it
 pub lexeme_goes : (l : Lexeme) (after : List ℕ) (n : ℕ) (tokens : List Token) → IsLexeme l after
-    → close (run (at Between (number n) tokens) (spelling l ++ after)) ≡ close (run (at Between (number (n + feeds (spelling l))) (tokens ++ given n l)) after)
+    → close (run (at Between (number n) tokens) (spelling l ++ after)) ≡ close (run (at Between (number (n + feeds (spelling l))) (tokens ++ token_of n l)) after)
 lexeme_goes (Blank b) after n tokens h = blank_goes b after n tokens h
 lexeme_goes (LineComment body) after n tokens h = comment_goes body after n tokens h
 lexeme_goes (Timescale body) after n tokens h = timescale_goes body after n tokens h
@@ -292,24 +294,24 @@ flaw_fails (BadSize p) after n tokens h = fails_by _ (faults.BadNumber (number n
     ∙ ap (λ (t : Bool). run (at (cond t (AtQuote false (min (plain_value p) number_limit)) (Failed (faults.BadNumber (number n)))) (number n) tokens) after) (size_stays (plain_value p) h.1)))
 flaw_fails (NoBase head) after n tokens h = fails_by _ (faults.BadNumber (number n)) after (number n) tokens
     (ap close (head_goes head after (number n) tokens h.0)
-    ∙ ends (at (AtQuote (is_signed head.sign) (size_of head)) (number n) tokens) after (quote_off head.sign after (size_of head) h.1 h.2))
+    ∙ ends (at (AtQuote (is_signed head.sign) (head_size head)) (number n) tokens) after (quote_off head.sign after (head_size head) h.1 h.2))
 flaw_fails (NoDigit head letter base) after n tokens h = fails_by _ (faults.BadNumber (number n)) after (number n) tokens
     (ap (λ (x : List ℕ). close (run (at Between (number n) tokens) x)) (append_assoc (head_text head) (letter ∷ []) after)
-    ∙ ap close (head_goes head (letter ∷ after) (number n) tokens h.0 ∙ letter_goes (is_signed head.sign) (size_of head) letter base after (number n) tokens h.1)
-    ∙ ends (at (AtBase (size_of head) base) (number n) tokens) after h.2)
+    ∙ ap close (head_goes head (letter ∷ after) (number n) tokens h.0 ∙ letter_goes (is_signed head.sign) (head_size head) letter base after (number n) tokens h.1)
+    ∙ ends (at (AtBase (head_size head) base) (number n) tokens) after h.2)
 flaw_fails (OddDigit l bad) after n tokens h =
     let v : ℕ = min (literal_value l) constant_limit in
     fails_by _ (faults.BadNumber (number n)) after (number n) tokens
     (ap (λ (x : List ℕ). close (run (at Between (number n) tokens) x)) (append_assoc (literal_text l) (bad ∷ []) after)
     ∙ ap close (literal_goes l (bad ∷ after) (number n) tokens h.0
-    ∙ goes (at (InConstant (size_of l.head) l.base v) (number n) tokens) bad after h.1
-    ∙ ap (λ (t : Bool). run (at (cond t (InConstant (size_of l.head) l.base (min (with_digit (radix_of l.base) v bad) constant_limit)) (Failed (faults.BadNumber (number n)))) (number n) tokens) after) h.2))
+    ∙ goes (at (InConstant (head_size l.head) l.base v) (number n) tokens) bad after h.1
+    ∙ ap (λ (t : Bool). run (at (cond t (InConstant (head_size l.head) l.base (min (with_digit (radix_of l.base) v bad) constant_limit)) (Failed (faults.BadNumber (number n)))) (number n) tokens) after) h.2))
 flaw_fails (LargeConstant l) after n tokens h =
     let v : ℕ = min (literal_value l) constant_limit in
     fails_by _ (faults.BadNumber (number n)) after (number n) tokens
     (ap close (literal_goes l after (number n) tokens h.0)
-    ∙ ends (at (InConstant (size_of l.head) l.base v) (number n) tokens) after h.1
-    ∙ checked_no (nat_lt v (2 ^ min (size_of l.head) 128)) (kinds.Const (size_of l.head) v) (faults.BadNumber (number n)) after (number n) tokens (fits_no (literal_value l) (size_of l.head) (in_range (size_of l.head) h.0.head.in_range) h.2))
+    ∙ ends (at (InConstant (head_size l.head) l.base v) (number n) tokens) after h.1
+    ∙ checked_no (nat_lt v (2 ^ min (head_size l.head) 128)) (kinds.Const (head_size l.head) v) (faults.BadNumber (number n)) after (number n) tokens (fits_no (literal_value l) (head_size l.head) (in_range (head_size l.head) h.0.head.in_range) h.2))
 flaw_fails (Open fence body) after n tokens h =
     let e : body ++ after ≡ body = ap (λ (x : List ℕ). body ++ x) h.0 ∙ append-nil body in
     subst (λ (m : Machine). Closes m tokens (Err (faults.OpenComment (number n))))
@@ -318,22 +320,22 @@ flaw_fails (Open fence body) after n tokens h =
 
 -- ---- whole texts
 
-stop_gives : (n : ℕ) (last : List ℕ) (end : Result ℕ LexFault) (tokens : List Token) → Stops n last end → Closes (run (at Between (number n) tokens) last) tokens end
+stop_gives : (n : ℕ) (last : List ℕ) (end : Result ℕ LexFault) (tokens : List Token) → IsEnd n last end → Closes (run (at Between (number n) tokens) last) tokens end
 stop_gives n last (Ok line) tokens h = closes_by _ (at Between (number n) tokens) tokens _ (ap (λ (x : List ℕ). close (run (at Between (number n) tokens) x)) h.0)
     (record { tokens_are = refl; end_is = ap (λ (x : ℕ). Ok x) (sym h.1) })
 stop_gives n last (Err fault) tokens h =
     subst (λ (f : LexFault). Closes (run (at Between (number n) tokens) last) tokens (Err f)) (sym h.named)
     (subst (λ (x : List ℕ). Closes (run (at Between (number n) tokens) x) tokens (Err (fault_of h.flaw (number n)))) (sym h.spelt) (flaw_fails h.flaw h.after n tokens h.is_flaw))
 
-pub text_gives : (ls : List Lexeme) (last : List ℕ) (n : ℕ) (end : Result ℕ LexFault) (tokens : List Token) → Each ls last → Stops (feeds_of n ls) last end
+pub text_gives : (ls : List Lexeme) (last : List ℕ) (n : ℕ) (end : Result ℕ LexFault) (tokens : List Token) → Each ls last → IsEnd (feeds_of n ls) last end
     → Closes (run (at Between (number n) tokens) (text_of ls last)) (tokens ++ tokens_of n ls) end
 text_gives [] last n end tokens each stops = subst (λ (x : List Token). Closes (run (at Between (number n) tokens) last) x end) (sym (append-nil tokens)) (stop_gives n last end tokens stops)
 text_gives (l ∷ ls) last n end tokens each stops =
-    closes_by (run (at Between (number n) tokens) (spelling l ++ text_of ls last)) (run (at Between (number (n + feeds (spelling l))) (tokens ++ given n l)) (text_of ls last))
-    (tokens ++ (given n l ++ tokens_of (n + feeds (spelling l)) ls)) end (lexeme_goes l (text_of ls last) n tokens each.0)
-    (subst (λ (x : List Token). Closes (run (at Between (number (n + feeds (spelling l))) (tokens ++ given n l)) (text_of ls last)) x end)
-    (append_assoc tokens (given n l) (tokens_of (n + feeds (spelling l)) ls))
-    (text_gives ls last (n + feeds (spelling l)) end (tokens ++ given n l) each.1 stops))
+    closes_by (run (at Between (number n) tokens) (spelling l ++ text_of ls last)) (run (at Between (number (n + feeds (spelling l))) (tokens ++ token_of n l)) (text_of ls last))
+    (tokens ++ (token_of n l ++ tokens_of (n + feeds (spelling l)) ls)) end (lexeme_goes l (text_of ls last) n tokens each.0)
+    (subst (λ (x : List Token). Closes (run (at Between (number (n + feeds (spelling l))) (tokens ++ token_of n l)) (text_of ls last)) x end)
+    (append_assoc tokens (token_of n l) (tokens_of (n + feeds (spelling l)) ls))
+    (text_gives ls last (n + feeds (spelling l)) end (tokens ++ token_of n l) each.1 stops))
 
 -- what a text denotes is what the machine gives for it
 pub denoted_gives : (text : List ℕ) (tokens : List Token) (end : Result ℕ LexFault) → Denotes text tokens end → Closes (run start text) tokens end

@@ -1,6 +1,9 @@
 -- Which bytes the parts of a text are made of.
 use Rattle.std.specs.Prelude.{◌≡◌, ℕ, ◌+◌, ◌-◌, ◌*◌, min, Bool, true, false, not, nat_le, nat_lt, ◌&&◌, ◌||◌, ◌==◌, if◌then◌else◌, is_some, Option, Some, None, List, [], ◌∷◌}
 use Rattle.std.specs.List.{AllByRecursion}
+use Rattle.std.specs.Char.{is_ascii_whitespace}
+use Rattle.bb_base.specs.Name.{is_name_byte}
+use Rattle.bb_base.specs.Words.{starts_word}
 use Rattle.bb_lex.specs.declared.bytes.Class.{Class}
 use Rattle.bb_lex.specs.declared.bytes.Class.TheVariants.{Letter, Digit, Blank, Slash, Backslash, Tick, Paren, Tilde, Caret, Single, Odd}
 use Rattle.bb_lex.specs.declared.bytes.Base.{Base}
@@ -14,9 +17,9 @@ between low high b = nat_le low b && nat_le b high
 -- what a byte can begin: `Blank` is white space, and `Single` a mark that no longer mark begins with
 unfoldable pub class_of : ℕ → Class
 class_of b =
-    if between 65 90 b || between 97 122 b || b == 95 then Letter else
+    if starts_word b then Letter else
     if between 48 57 b then Digit else
-    if b == 32 || b == 9 || b == 10 || b == 13 || b == 12 then Blank else
+    if is_ascii_whitespace b then Blank else
     if b == 47 then Slash else
     if b == 92 then Backslash else
     if b == 96 then Tick else
@@ -37,10 +40,6 @@ class_of b =
     if b == 124 then Single marks.Bar else
     if b == 63 then Single marks.Question else Odd
 
--- goes on a simple name: a letter, a digit, `_` or `$`
-unfoldable pub is_word : ℕ → Bool
-is_word b = between 65 90 b || between 97 122 b || between 48 57 b || b == 95 || b == 36
-
 -- goes on a plain number: a digit or `_`
 unfoldable pub is_number : ℕ → Bool
 is_number b = between 48 57 b || b == 95
@@ -49,13 +48,9 @@ is_number b = between 48 57 b || b == 95
 unfoldable pub is_constant : ℕ → Bool
 is_constant b = between 65 90 b || between 97 122 b || between 48 57 b || b == 95
 
--- may stand in an escaped name
-unfoldable pub is_graphic : ℕ → Bool
-is_graphic b = between 33 126 b
-
--- neither white space nor a byte of an escaped name
+-- neither white space nor a byte of names
 unfoldable pub is_odd : ℕ → Bool
-is_odd b = not (b == 32 || b == 9 || b == 10 || b == 13 || b == 12 || between 33 126 b)
+is_odd b = not (is_ascii_whitespace b || is_name_byte b)
 
 -- `s` in either case
 unfoldable pub is_sign : ℕ → Bool

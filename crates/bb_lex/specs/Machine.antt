@@ -15,7 +15,9 @@ use Rattle.bb_lex.specs.declared.token.TokenKind.TheVariants as kinds
 use Rattle.bb_lex.specs.declared.token.Token.{Token}
 use Rattle.bb_lex.specs.declared.lexer.Begun.{Begun}
 use Rattle.bb_lex.specs.declared.lexer.Begun.TheVariants as begun
-use Rattle.bb_lex.specs.Bytes.{between, class_of, is_word, is_number, is_constant, is_graphic, is_odd, is_sign, base_of, is_base, radix_of, digit_of, is_digit, is_digit_or_low, with_digit, line_after}
+use Rattle.bb_base.specs.Name.{is_name_byte}
+use Rattle.bb_base.specs.Words.{is_word_byte}
+use Rattle.bb_lex.specs.Bytes.{between, class_of, is_number, is_constant, is_odd, is_sign, base_of, is_base, radix_of, digit_of, is_digit, is_digit_or_low, with_digit, line_after}
 use Rattle.bb_lex.specs.Keywords.{word_kind}
 use Rattle.bb_lex.specs.Fences.{closer, place_after, shown}
 
@@ -83,7 +85,7 @@ tick_byte n =
 -- the byte is part of what has begun
 abbrev pub goes_on : Mode → ℕ → Bool
 goes_on Between b = false
-goes_on (InName bytes) b = is_word b
+goes_on (InName bytes) b = is_word_byte b
 goes_on (InNumber n) b = is_number b || b == 39
 goes_on (AtQuote signed size) b = is_base b || (not signed && is_sign b)
 goes_on (AtBase size base) b = is_digit base b
@@ -95,8 +97,8 @@ goes_on AtSlash b = b == 47 || b == 42
 goes_on (AtTick matched) b = b == tick_byte matched
 goes_on InLine b = not (b == 10)
 goes_on (InFence fence place star from) b = true
-goes_on AtBackslash b = is_graphic b
-goes_on (InEscaped bytes) b = is_graphic b || is_odd b
+goes_on AtBackslash b = is_name_byte b
+goes_on (InEscaped bytes) b = is_name_byte b || is_odd b
 goes_on (Failed fault) b = true
 
 -- what a byte does: something goes on or fails, or a token is complete
@@ -168,18 +170,18 @@ ending (InEscaped bytes) line = checked (is_short bytes) (kinds.Name bytes) (fau
 ending (Failed fault) line = Breaks fault
 
 -- what a byte begins
-abbrev pub opened : Class → ℕ → ℕ → Action
-opened class.Letter b line = Goes (InName (b ∷ [])) line
-opened class.Digit b line = Goes (InNumber (digit_of b)) line
-opened class.Blank b line = Goes Between (line_after line b)
-opened class.Slash b line = Goes AtSlash line
-opened class.Backslash b line = Goes AtBackslash line
-opened class.Tick b line = Goes (AtTick 0) line
-opened class.Paren b line = Goes AtParen line
-opened class.Tilde b line = Goes AtTilde line
-opened class.Caret b line = Goes AtCaret line
-opened (class.Single mark) b line = Gives (kinds.Mark mark)
-opened class.Odd b line = Goes (Failed (faults.BadByte line)) line
+abbrev pub begun_by : Class → ℕ → ℕ → Action
+begun_by class.Letter b line = Goes (InName (b ∷ [])) line
+begun_by class.Digit b line = Goes (InNumber (digit_of b)) line
+begun_by class.Blank b line = Goes Between (line_after line b)
+begun_by class.Slash b line = Goes AtSlash line
+begun_by class.Backslash b line = Goes AtBackslash line
+begun_by class.Tick b line = Goes (AtTick 0) line
+begun_by class.Paren b line = Goes AtParen line
+begun_by class.Tilde b line = Goes AtTilde line
+begun_by class.Caret b line = Goes AtCaret line
+begun_by (class.Single mark) b line = Gives (kinds.Mark mark)
+begun_by class.Odd b line = Goes (Failed (faults.BadByte line)) line
 
 -- the machine after an action
 abbrev pub act : Action → ℕ → List Token → Machine
@@ -199,7 +201,7 @@ close m = close_as (ending m.now.mode m.now.line) m.now.line m.tokens
 -- the byte begins something, unless there was a fault
 abbrev pub begin_by : Mode → Class → ℕ → ℕ → List Token → Machine
 begin_by (Failed fault) c b line tokens = at (Failed fault) line tokens
-begin_by mode c b line tokens = act (opened c b line) line tokens
+begin_by mode c b line tokens = act (begun_by c b line) line tokens
 
 -- the byte begins something
 abbrev pub begin : Class → ℕ → Machine → Machine
@@ -241,9 +243,9 @@ abbrev pub after_tokens : List Token → Machine → Machine
 after_tokens earlier m = at m.now.mode m.now.line (earlier ++ m.tokens)
 
 -- the number that a constant's digits so far spell, where none stands for too large a one
-abbrev pub counted : Option ℕ → ℕ
-counted (Some n) = n
-counted None = constant_limit
+abbrev pub capped : Option ℕ → ℕ
+capped (Some n) = n
+capped None = constant_limit
 
 -- the mode of the code, with the bytes of the name that has begun
 abbrev pub mode_of : Begun → List ℕ → Mode
@@ -252,7 +254,7 @@ mode_of begun.Name name = InName name
 mode_of (begun.Number n) name = InNumber n
 mode_of (begun.Quote signed size) name = AtQuote signed size
 mode_of (begun.Radix size base) name = AtBase size base
-mode_of (begun.Constant size base n) name = InConstant size base (counted n)
+mode_of (begun.Constant size base n) name = InConstant size base (capped n)
 mode_of begun.Tilde name = AtTilde
 mode_of begun.Caret name = AtCaret
 mode_of begun.Paren name = AtParen
@@ -283,15 +285,15 @@ abbrev pub told : Mode → Result (Unit {0}) LexFault
 told (Failed fault) = Err fault
 told mode = Ok tt
 
--- the tokens are a front of the run's, where memory ran out
-abbrev pub RanOut : Machine → Machine → Type 0
-RanOut m after = (rest : List Token) × (m.tokens ≡ after.tokens ++ rest)
+-- the tokens that stood there stand there, before further ones
+abbrev pub IsKept : List Token → List Token → Type 0
+IsKept old new = (more : List Token) × (new ≡ old ++ more)
 
--- the machine stands where this run leads, or memory ran out on the way
+-- The machine stands where this run leads. Where memory ran out on the way, its tokens are a front of the run's.
 abbrev pub Stands : {A : Type 0} → Result A LexFault → Machine → Machine → Type 0
 Stands (Ok x) m after = after ≡ m
 Stands (Err (faults.BadByte line)) m after = after ≡ m
 Stands (Err (faults.BadNumber line)) m after = after ≡ m
 Stands (Err (faults.LongName line)) m after = after ≡ m
 Stands (Err (faults.OpenComment line)) m after = after ≡ m
-Stands (Err faults.NoMemory) m after = RanOut m after
+Stands (Err faults.NoMemory) m after = IsKept after.tokens m.tokens

@@ -1,35 +1,38 @@
--- The ranges of the numbers in tokens.
+-- Tokens that a text may have: their names are names, and their numbers in their ranges.
 use Rattle.std.specs.Prelude.{ℕ, ◌^◌, ◌<◌, ◌≤◌}
 use Rattle.std.specs.List.{AllByRecursion}
+use Rattle.bb_base.specs.Name.{IsName, IsNameByte}
 use Rattle.bb_lex.specs.declared.token.TokenKind.{TokenKind}
 use Rattle.bb_lex.specs.declared.token.TokenKind.TheVariants.{Key, Name, Number, Const, Mark}
 use Rattle.bb_lex.specs.declared.token.Token.{Token}
-use Rattle.bb_lex.specs.Machine.{Mode, AtQuote, AtBase, InConstant, Machine}
+use Rattle.bb_lex.specs.Machine.{Mode, InName, AtQuote, AtBase, InConstant, InEscaped, Machine}
 
 -- a constant has 1 to 128 bits
 abbrev pub IsSize : ℕ → Type 0
 IsSize size = (1 ≤ size) × (size ≤ 128)
 
--- a plain number is below 2^31, and a constant below 2 to its size
-abbrev pub IsRangedKind : TokenKind → Type 0
-IsRangedKind (Key keyword) = Unit {0}
-IsRangedKind (Name bytes) = Unit {0}
-IsRangedKind (Number n) = n < 2147483648
-IsRangedKind (Const size value) = IsSize size × (value < 2 ^ size)
-IsRangedKind (Mark mark) = Unit {0}
+-- a name is one, a plain number is below 2^31, and a constant below 2 to its size
+abbrev pub IsProperKind : TokenKind → Type 0
+IsProperKind (Key keyword) = Unit {0}
+IsProperKind (Name bytes) = IsName bytes
+IsProperKind (Number n) = n < 2147483648
+IsProperKind (Const size value) = IsSize size × (value < 2 ^ size)
+IsProperKind (Mark mark) = Unit {0}
 
--- the number in a token is in its range
-abbrev pub IsRanged : Token → Type 0
-IsRanged token = IsRangedKind token.kind
+-- a token that a text may have
+abbrev pub IsProper : Token → Type 0
+IsProper token = IsProperKind token.kind
 
--- the size of a constant that has begun is in its range
+-- what has begun keeps to this: a name has bytes of names, and the size of a constant is in its range
 abbrev pub IsSoundMode : Mode → Type 0
+IsSoundMode (InName bytes) = AllByRecursion IsNameByte bytes
 IsSoundMode (AtQuote signed size) = IsSize size
 IsSoundMode (AtBase size base) = IsSize size
 IsSoundMode (InConstant size base value) = IsSize size
+IsSoundMode (InEscaped bytes) = AllByRecursion IsNameByte bytes
 IsSoundMode mode = Unit {0}
 
--- all tokens are in range, and so is what has begun
+-- all tokens are proper, and what has begun keeps to the same
 pub record IsSound (m : Machine) : Type 0 where
-  pub tokens : AllByRecursion IsRanged m.tokens
+  pub tokens : AllByRecursion IsProper m.tokens
   pub mode : IsSoundMode m.now.mode

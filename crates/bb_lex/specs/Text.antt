@@ -11,7 +11,9 @@ use Rattle.bb_lex.specs.declared.fault.LexFault.TheVariants as faults
 use Rattle.bb_lex.specs.declared.token.TokenKind.{TokenKind}
 use Rattle.bb_lex.specs.declared.token.TokenKind.TheVariants as kinds
 use Rattle.bb_lex.specs.declared.token.Token.{Token}
-use Rattle.bb_lex.specs.Bytes.{between, class_of, is_word, is_number, is_constant, is_graphic, is_odd, is_sign, base_of, is_base, radix_of, digit_of, is_digit, is_digit_or_low, value, AllOf, begins, feeds}
+use Rattle.bb_base.specs.Name.{is_name_byte}
+use Rattle.bb_base.specs.Words.{is_word_byte}
+use Rattle.bb_lex.specs.Bytes.{between, class_of, is_number, is_constant, is_odd, is_sign, base_of, is_base, radix_of, digit_of, is_digit, is_digit_or_low, value, AllOf, begins, feeds}
 use Rattle.bb_lex.specs.Keywords.{word_kind}
 use Rattle.bb_lex.specs.Fences.{opener, closer, is_closed}
 
@@ -20,8 +22,8 @@ abbrev pub number : ℕ → ℕ
 number before = min (before + 1) 4294967295
 
 -- any byte but a line feed
-abbrev pub is_inside : ℕ → Bool
-is_inside b = not (b == 10)
+abbrev pub is_in_line : ℕ → Bool
+is_in_line b = not (b == 10)
 
 -- the list begins with the bytes
 abbrev pub starts_with : List ℕ → List ℕ → Bool
@@ -61,8 +63,8 @@ abbrev pub head_text : Head → List ℕ
 head_text h = plain_text h.size ++ 39 ∷ h.sign
 
 -- the size of the constant in bits
-abbrev pub size_of : Head → ℕ
-size_of h = plain_value h.size
+abbrev pub head_size : Head → ℕ
+head_size h = plain_value h.size
 
 -- at most one byte, an `s` in either case
 abbrev pub IsSign : List ℕ → Type 0
@@ -73,7 +75,7 @@ IsSign (s ∷ t ∷ more) = ⊥
 -- its size is 1 to 128
 pub record IsHead (h : Head) : Type 0 where
   pub plain : IsPlain h.size
-  pub in_range : between 1 128 (size_of h) ≡ true
+  pub in_range : between 1 128 (head_size h) ≡ true
   pub sign : IsSign h.sign
 
 -- a constant: its front, the letter of its base, a digit, then digits and `_`
@@ -136,15 +138,15 @@ spelling (Single b mark) = b ∷ []
 -- what holds of a lexeme's parts, and that the text after it doesn't go on with it
 abbrev pub IsLexeme : Lexeme → List ℕ → Type 0
 IsLexeme (Blank b) after = class_of b ≡ class.Blank
-IsLexeme (LineComment body) after = AllOf is_inside body × (begins is_inside after ≡ false)
-IsLexeme (Timescale body) after = AllOf is_inside body × (begins is_inside after ≡ false)
+IsLexeme (LineComment body) after = AllOf is_in_line body × (begins is_in_line after ≡ false)
+IsLexeme (Timescale body) after = AllOf is_in_line body × (begins is_in_line after ≡ false)
 -- the first closing mark outside strings is the last
 IsLexeme (Fenced fence body) after = (is_closed fence (body ++ 42 ∷ []) ≡ false) × (is_closed fence (body ++ 42 ∷ closer fence ∷ []) ≡ true)
-IsLexeme (Word first more) after = (class_of first ≡ class.Letter) × AllOf is_word more × (begins is_word after ≡ false) × (length (first ∷ more) ≤ 1024)
+IsLexeme (Word first more) after = (class_of first ≡ class.Letter) × AllOf is_word_byte more × (begins is_word_byte after ≡ false) × (length (first ∷ more) ≤ 1024)
 -- up to white space or the end
-IsLexeme (Escaped first more) after = AllOf is_graphic (first ∷ more) × (begins is_graphic after ≡ false) × (begins is_odd after ≡ false) × (length (first ∷ more) ≤ 1024)
+IsLexeme (Escaped first more) after = AllOf is_name_byte (first ∷ more) × (begins is_name_byte after ≡ false) × (begins is_odd after ≡ false) × (length (first ∷ more) ≤ 1024)
 IsLexeme (Digits plain) after = IsPlain plain × (begins is_number after ≡ false) × (begins (λ b. b == 39) after ≡ false) × (plain_value plain < 2147483648)
-IsLexeme (Constant literal) after = IsLiteral literal × (begins is_constant after ≡ false) × (literal_value literal < 2 ^ size_of literal.head)
+IsLexeme (Constant literal) after = IsLiteral literal × (begins is_constant after ≡ false) × (literal_value literal < 2 ^ head_size literal.head)
 IsLexeme Paren after = begins (λ b. b == 42) after ≡ false
 IsLexeme Tilde after = begins (λ b. b == 94) after ≡ false
 IsLexeme Caret after = begins (λ b. b == 126) after ≡ false
@@ -161,7 +163,7 @@ kind_of (Fenced fence body) = None
 kind_of (Word first more) = Some (word_kind (first ∷ more))
 kind_of (Escaped first more) = Some (kinds.Name (first ∷ more))
 kind_of (Digits plain) = Some (kinds.Number (plain_value plain))
-kind_of (Constant literal) = Some (kinds.Const (size_of literal.head) (literal_value literal))
+kind_of (Constant literal) = Some (kinds.Const (head_size literal.head) (literal_value literal))
 kind_of Paren = Some (kinds.Mark marks.LeftParen)
 kind_of Tilde = Some (kinds.Mark marks.Tilde)
 kind_of Caret = Some (kinds.Mark marks.Caret)
@@ -175,8 +177,8 @@ tokens_by before None = []
 tokens_by before (Some kind) = record { kind = kind; line = number before } ∷ []
 
 -- the token of a lexeme, where it has one
-abbrev pub given : ℕ → Lexeme → List Token
-given before l = tokens_by before (kind_of l)
+abbrev pub token_of : ℕ → Lexeme → List Token
+token_of before l = tokens_by before (kind_of l)
 
 -- the text of lexemes and what comes last
 abbrev pub text_of : List Lexeme → List ℕ → List ℕ
@@ -191,7 +193,7 @@ Each (l ∷ ls) last = IsLexeme l (text_of ls last) × Each ls last
 -- the tokens of lexemes after so many line feeds
 abbrev pub tokens_of : ℕ → List Lexeme → List Token
 tokens_of before [] = []
-tokens_of before (l ∷ ls) = given before l ++ tokens_of (before + feeds (spelling l)) ls
+tokens_of before (l ∷ ls) = token_of before l ++ tokens_of (before + feeds (spelling l)) ls
 
 -- the line feeds up to the end of lexemes
 abbrev pub feeds_of : ℕ → List Lexeme → ℕ
@@ -242,17 +244,17 @@ abbrev pub IsFlaw : Flaw → List ℕ → Type 0
 IsFlaw (Stray b) after = class_of b ≡ class.Odd
 IsFlaw StraySlash after = (begins (λ b. b == 47) after ≡ false) × (begins (λ b. b == 42) after ≡ false)
 IsFlaw StrayTick after = starts_with timescale after ≡ false
-IsFlaw StrayBackslash after = begins is_graphic after ≡ false
+IsFlaw StrayBackslash after = begins is_name_byte after ≡ false
 -- an escaped name ends at white space or the text's end, and this one at another byte
-IsFlaw (CutName first more odd) after = AllOf is_graphic (first ∷ more) × (is_odd odd ≡ true)
-IsFlaw (LongWord first more) after = (class_of first ≡ class.Letter) × AllOf is_word more × (begins is_word after ≡ false) × (1024 < length (first ∷ more))
-IsFlaw (LongEscaped first more) after = AllOf is_graphic (first ∷ more) × (begins is_graphic after ≡ false) × (begins is_odd after ≡ false) × (1024 < length (first ∷ more))
+IsFlaw (CutName first more odd) after = AllOf is_name_byte (first ∷ more) × (is_odd odd ≡ true)
+IsFlaw (LongWord first more) after = (class_of first ≡ class.Letter) × AllOf is_word_byte more × (begins is_word_byte after ≡ false) × (1024 < length (first ∷ more))
+IsFlaw (LongEscaped first more) after = AllOf is_name_byte (first ∷ more) × (begins is_name_byte after ≡ false) × (begins is_odd after ≡ false) × (1024 < length (first ∷ more))
 IsFlaw (LargeNumber plain) after = IsPlain plain × (begins is_number after ≡ false) × (begins (λ b. b == 39) after ≡ false) × (2147483648 ≤ plain_value plain)
 IsFlaw (BadSize plain) after = IsPlain plain × (between 1 128 (plain_value plain) ≡ false)
 IsFlaw (NoBase head) after = IsHead head × (begins is_base after ≡ false) × NoSign head.sign after
 IsFlaw (NoDigit head letter base) after = IsHead head × (base_of letter ≡ Some base) × (begins (is_digit base) after ≡ false)
 IsFlaw (OddDigit literal bad) after = IsLiteral literal × (is_constant bad ≡ true) × (is_digit_or_low literal.base bad ≡ false)
-IsFlaw (LargeConstant literal) after = IsLiteral literal × (begins is_constant after ≡ false) × (2 ^ size_of literal.head ≤ literal_value literal)
+IsFlaw (LargeConstant literal) after = IsLiteral literal × (begins is_constant after ≡ false) × (2 ^ head_size literal.head ≤ literal_value literal)
 IsFlaw (Open fence body) after = (after ≡ []) × (is_closed fence body ≡ false)
 
 -- the fault of a flaw in this line
@@ -281,9 +283,9 @@ pub record IsFlawed (before : ℕ) (text : List ℕ) (fault : LexFault) : Type 0
   pub named : fault ≡ fault_of flaw (number before)
 
 -- what comes after all lexemes: nothing, where the answer is the last line's number, or a flaw
-abbrev pub Stops : ℕ → List ℕ → Result ℕ LexFault → Type 0
-Stops before last (Ok line) = (last ≡ []) × (line ≡ number before)
-Stops before last (Err fault) = IsFlawed before last fault
+abbrev pub IsEnd : ℕ → List ℕ → Result ℕ LexFault → Type 0
+IsEnd before last (Ok line) = (last ≡ []) × (line ≡ number before)
+IsEnd before last (Err fault) = IsFlawed before last fault
 
 -- the tokens of a text, and its last line's number or its first fault
 pub record Denotes (text : List ℕ) (tokens : List Token) (end : Result ℕ LexFault) : Type 0 where
@@ -292,4 +294,4 @@ pub record Denotes (text : List ℕ) (tokens : List Token) (end : Result ℕ Lex
   pub spelt : text ≡ text_of lexemes last
   pub each : Each lexemes last
   pub given_tokens : tokens ≡ tokens_of 0 lexemes
-  pub stops : Stops (feeds_of 0 lexemes) last end
+  pub stops : IsEnd (feeds_of 0 lexemes) last end

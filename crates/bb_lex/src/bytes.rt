@@ -1,9 +1,10 @@
 //! What the bytes of a text can begin or go on.
 
 ghost use Rattle.std.specs.Prelude.{◌≡◌};
-ghost use Rattle.bb_lex.specs.Bytes.{class_of, is_word, is_number, is_constant, is_graphic, is_odd, is_sign, digit_of, base_of, radix_of, line_after};
+ghost use Rattle.bb_lex.specs.Bytes.{class_of, is_number, is_constant, is_odd, is_sign, digit_of, base_of, radix_of, line_after};
 
 use crate::Mark;
+use bb_base::may_start;
 
 /// What a byte can begin.
 #[derive(Clone, Copy, Debug, PartialEq, Eq)]
@@ -36,9 +37,9 @@ pub(crate) fn class_of(b: u8) -> Class
     ensures { result ≡ class_of b }
 {
     match b {
-        b'A'..=b'Z' | b'a'..=b'z' | b'_' => Class::Letter,
+        _ if may_start(b) => Class::Letter,
         b'0'..=b'9' => Class::Digit,
-        b' ' | b'\t' | b'\n' | b'\r' | 12 => Class::Blank,
+        _ if b.is_ascii_whitespace() => Class::Blank,
         b'/' => Class::Slash,
         b'\\' => Class::Backslash,
         b'`' => Class::Tick,
@@ -62,14 +63,6 @@ pub(crate) fn class_of(b: u8) -> Class
     }
 }
 
-/// Whether the byte may go on a simple name.
-#[tactic(auto, unfolding(crate::specs::Bytes::is_word))]
-pub(crate) fn is_word(b: u8) -> bool
-    ensures { result ≡ is_word b }
-{
-    matches!(b, b'A'..=b'Z' | b'a'..=b'z' | b'0'..=b'9' | b'_' | b'$')
-}
-
 /// Whether the byte may go on a plain number.
 #[tactic(auto, unfolding(crate::specs::Bytes::is_number))]
 pub(crate) fn is_number(b: u8) -> bool
@@ -86,20 +79,12 @@ pub(crate) fn is_constant(b: u8) -> bool
     matches!(b, b'A'..=b'Z' | b'a'..=b'z' | b'0'..=b'9' | b'_')
 }
 
-/// Whether the byte may stand in an escaped name.
-#[tactic(auto, unfolding(crate::specs::Bytes::is_graphic))]
-pub(crate) fn is_graphic(b: u8) -> bool
-    ensures { result ≡ is_graphic b }
-{
-    matches!(b, 33..=126)
-}
-
-/// Whether the byte is neither white space nor may stand in an escaped name.
+/// Whether the byte is neither white space nor one of names.
 #[tactic(auto, unfolding(crate::specs::Bytes::is_odd))]
 pub(crate) fn is_odd(b: u8) -> bool
     ensures { result ≡ is_odd b }
 {
-    !matches!(b, b' ' | b'\t' | b'\n' | b'\r' | 12 | 33..=126)
+    !(b.is_ascii_whitespace() || b.is_ascii_graphic())
 }
 
 /// Whether the byte says that a constant is signed.

@@ -2,13 +2,13 @@
 
 ghost use Rattle.std.specs.Prelude.{◌≡◌, ◌^◌, min, nat_lt};
 ghost use Rattle.bb_lex.specs.Bytes.{radix_of, with_digit};
-ghost use Rattle.bb_lex.specs.Machine.{constant_limit, counted};
+ghost use Rattle.bb_lex.specs.Machine.{constant_limit, capped};
 
 use crate::bytes::{Base, digit_of, radix_of};
 
 /// The value with one more digit, where `_` is none.
 pub(crate) fn with_digit(value: Option<u128>, base: Base, b: u8) -> Option<u128>
-    ensures { counted result ≡ min (with_digit (radix_of base) (counted value) b) constant_limit }
+    ensures { capped result ≡ min (with_digit (radix_of base) (capped value) b) constant_limit }
 {
     if b == b'_' {
         return value;

@@ -27,7 +27,7 @@ pub fn a_fault_stands()
     ensures close { (m : Machine) (fault : FaultValue) → m.now.mode ≡ Failed fault → close m ≡ m }
 {}
 
-/// Numbers in tokens are in their ranges, and stay so from the start of a text on.
+/// Names in tokens are names and numbers are in their ranges, from the start of a text on.
 pub fn in_range()
     ensures start { IsSound start }
     ensures run { (m : Machine) (bytes : List ℕ) → IsSound m → IsSound (run m bytes) }

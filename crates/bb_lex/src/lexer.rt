@@ -1,22 +1,23 @@
 //! The reader: what has begun is kept from byte to byte, and from piece to piece.
 
-ghost use Rattle.std.specs.Prelude.{◌≡◌, ℕ, List, [], ◌++◌, Ok, OnOk, OnErr, IfErr, IfOk, true, false, min, nat_lt, ◌^◌, ◌==◌, if◌then◌else◌};
+ghost use Rattle.std.specs.Prelude.{◌≡◌, ℕ, List, [], ◌++◌, Ok, Err, OnOk, OnErr, IfErr, IfOk, true, false, min, nat_lt, ◌^◌, ◌==◌, if◌then◌else◌};
 ghost use Rattle.bb_lex.specs.Bytes.{class_of, base_of, radix_of, with_digit, is_digit_or_low};
 ghost use Rattle.bb_lex.specs.Keywords.{word_kind};
 ghost use Rattle.bb_lex.specs.Fences.{closer, place_after, shown};
-ghost use Rattle.bb_lex.specs.Machine.{InNumber, InConstant, Failed, InFence, run, start, step, seen, told, Stands, close, goes_on, more, begin, one, mode_of, answer_by, ending, IsEnding, checked, act, Gives, tick_byte, quoted, based, counted, number_limit, constant_limit, is_short};
+ghost use Rattle.bb_lex.specs.Machine.{InNumber, InConstant, Failed, InFence, run, start, step, seen, told, IsKept, Stands, close, goes_on, more, begin, one, mode_of, answer_by, ending, IsEnding, checked, act, Gives, tick_byte, quoted, based, capped, number_limit, constant_limit, is_short};
 ghost use Rattle.bb_lex.specs.declared.token.TokenKind.TheVariants.{Const, Mark as MarkKind};
 ghost use Rattle.bb_lex.specs.declared.lexer.Place.TheVariants.{Outside};
+ghost use Rattle.bb_lex.specs.declared.fault.LexFault.{LexFault as FaultValue};
 ghost use Rattle.bb_lex.specs.declared.fault.LexFault.TheVariants.{BadNumber, NoMemory};
 
 use crate::bytes::{
-    Base, Class, base_of, class_of, digit_of, is_constant, is_graphic, is_number, is_odd, is_sign,
-    is_word, line_after, radix_of,
+    Base, Class, base_of, class_of, digit_of, is_constant, is_number, is_odd, is_sign, line_after,
+    radix_of,
 };
 use crate::constant::{fits, with_digit};
-use crate::keyword::keyword_of;
 use crate::spelling::Spelling;
 use crate::{LexFault, Mark, Token, TokenKind};
+use bb_base::{keyword_of, may_follow};
 use std::alloc::Global;
 use std::marker::Model;
 
@@ -194,7 +195,7 @@ fn after_quote(size: u8, b: u8) -> Begun
 
 // A constant with one more byte: a digit of its base, `_`, or a fault.
 fn after_digit(size: u8, base: Base, value: Option<u128>, b: u8, line: u32) -> Begun
-    ensures { (name : List ℕ) → mode_of result name ≡ (if is_digit_or_low base b then InConstant size base (min (with_digit (radix_of base) (counted value) b) constant_limit) else Failed (BadNumber line)) }
+    ensures { (name : List ℕ) → mode_of result name ≡ (if is_digit_or_low base b then InConstant size base (min (with_digit (radix_of base) (capped value) b) constant_limit) else Failed (BadNumber line)) }
 {
     if b == b'_' || digit_of(b) < radix_of(base) {
         let value = with_digit(value, base, b);
@@ -252,7 +253,7 @@ fn word_kind(alloc: Global, name: &Spelling) -> Result<TokenKind, LexFault>
 
 // The kind of the token that a constant spells, where its value fits its size.
 fn constant_kind(size: u8, value: Option<u128>, line: u32) -> Result<Option<TokenKind>, LexFault>
-    ensures { IsEnding result (checked (nat_lt (counted value) (2 ^ min size 128)) (Const size (counted value)) (BadNumber line)) }
+    ensures { IsEnding result (checked (nat_lt (capped value) (2 ^ min size 128)) (Const size (capped value)) (BadNumber line)) }
 {
     match value {
         Some(value) if fits(value, size) => Ok(Some(TokenKind::Const { size, value })),
@@ -280,7 +281,7 @@ impl Lexer {
     {
         match self.begun {
             Begun::Between => false,
-            Begun::Name => is_word(b),
+            Begun::Name => may_follow(b),
             Begun::Number(_) => is_number(b) || b == b'\'',
             Begun::Quote { signed, .. } => base_of(b).is_some() || (!signed && is_sign(b)),
             Begun::Radix { base, .. } => digit_of(b) < radix_of(base),
@@ -291,8 +292,8 @@ impl Lexer {
             Begun::Slash => b == b'/' || b == b'*',
             Begun::Tick(matched) => b == tick_byte(matched),
             Begun::Line => b != b'\n',
-            Begun::Backslash => is_graphic(b),
-            Begun::Escaped => is_graphic(b) || is_odd(b),
+            Begun::Backslash => b.is_ascii_graphic(),
+            Begun::Escaped => b.is_ascii_graphic() || is_odd(b),
             Begun::Fenced { .. } | Begun::Failed(_) => true,
         }
     }
@@ -326,6 +327,7 @@ impl Lexer {
     fn end(&mut self, out: &mut Vec<Token>) -> Result<(), LexFault>
         ensures stands { Stands result (close (seen self.old out.old.items)) (seen self.new out.new.items) }
         ensures told { result ≡ told self.new.mode }
+        ensures kept { IsKept out.old.items out.new.items }
     {
         let given = match self.kind() {
             Ok(Some(kind)) => give(out, kind, self.line),
@@ -345,6 +347,7 @@ impl Lexer {
     fn mark(&mut self, mark: Mark, out: &mut Vec<Token>) -> Result<(), LexFault>
         ensures stands { Stands result (act (Gives (MarkKind mark)) self.old.line out.old.items) (seen self.new out.new.items) }
         ensures told { result ≡ told self.new.mode }
+        ensures kept { IsKept out.old.items out.new.items }
     {
         match give(out, TokenKind::Mark(mark), self.line) {
             Ok(()) => settle(&mut self.begun, Begun::Between),
@@ -360,6 +363,7 @@ impl Lexer {
         requires { goes_on self.old.mode b ≡ true }
         ensures stands { Stands result (more b (seen self.old out.old.items)) (seen self.new out.new.items) }
         ensures told { result ≡ told self.new.mode }
+        ensures kept { IsKept out.old.items out.new.items }
     {
         let line = self.line;
         match self.begun {
@@ -435,6 +439,7 @@ impl Lexer {
         requires { told self.old.mode ≡ Ok tt }
         ensures stands { Stands result (begin (class_of b) b (seen self.old out.old.items)) (seen self.new out.new.items) }
         ensures told { result ≡ told self.new.mode }
+        ensures kept { IsKept out.old.items out.new.items }
     {
         let line = self.line;
         match class_of(b) {
@@ -465,6 +470,7 @@ impl Lexer {
     fn step(&mut self, b: u8, out: &mut Vec<Token>) -> Result<(), LexFault>
         ensures stands { Stands result (step (seen self.old out.old.items) b) (seen self.new out.new.items) }
         ensures told { result ≡ told self.new.mode }
+        ensures kept { IsKept out.old.items out.new.items }
     {
         if self.goes_on(b) {
             return self.more(b, out);
@@ -477,11 +483,15 @@ impl Lexer {
 
     /// Takes the next piece of the text, and appends the tokens that are complete in it.
     ///
-    /// A name, a number, a constant, `(`, `~` or `^` at the piece's end isn't complete yet. After any fault each later call
-    /// answers that fault again, and `out` keeps the tokens before it; after want of memory these are the first of them.
+    /// A name, a number, a constant, `(`, `~` or `^` at the piece's end isn't complete yet. After a fault or want of memory each
+    /// later call gives the same answer and changes nothing. What stood in `out` stands there, whatever the call answers; behind
+    /// it stand the tokens before a fault, or after want of memory the first of them.
     pub fn feed(&mut self, piece: &[u8], out: &mut Vec<Token>) -> Result<(), LexFault>
         ensures stands { Stands result (run (seen self.old out.old.items) piece.now) (seen self.new out.new.items) }
         ensures told { result ≡ told self.new.mode }
+        ensures kept { IsKept out.old.items out.new.items }
+        ensures again { (fault : FaultValue) → told self.old.mode ≡ Err fault → result ≡ Err fault }
+        ensures unchanged { (fault : FaultValue) → told self.old.mode ≡ Err fault → seen self.new out.new.items ≡ seen self.old out.old.items }
     {
         if let Begun::Failed(fault) = self.begun {
             return Err(fault);
@@ -501,8 +511,16 @@ impl Lexer {
     pub fn finish(&mut self, out: &mut Vec<Token>) -> Result<u32, LexFault>
         ensures stands { Stands result (close (seen self.old out.old.items)) (seen self.new out.new.items) }
         ensures answer { result ≡ answer_by self.new.mode self.new.line }
+        ensures kept { IsKept out.old.items out.new.items }
+        ensures again { (fault : FaultValue) → told self.old.mode ≡ Err fault → result ≡ Err fault }
+        ensures unchanged { (fault : FaultValue) → told self.old.mode ≡ Err fault → seen self.new out.new.items ≡ seen self.old out.old.items }
     {
-        self.end(out)?;
-        Ok(self.line)
+        match self.begun {
+            Begun::Failed(fault) => Err(fault),
+            _ => {
+                self.end(out)?;
+                Ok(self.line)
+            }
+        }
     }
 }

@@ -1,7 +1,9 @@
 //! Tokens of Verilog text that comes in pieces of any length, or the first thing in it that spells none.
 //!
 //! - The tokens, their lines and the answer are those of the whole text, however it was cut.
-//! - After a fault the tokens before it stand, and every later call answers that fault again.
+//! - What stood in `out` before a call stands there after it, whatever the call answers.
+//! - After a fault or want of memory each later call gives the same answer and changes nothing.
+//! - Names in tokens are names, and numbers are in their ranges.
 //! - Of the text at most one token is held, and of a name at most 1,025 bytes.
 //!
 //! `specs/Text.antt` says what tokens a whole text has, `specs/Machine.antt` what the reader does with each byte, and
@@ -11,15 +13,13 @@
 mod bytes;
 mod constant;
 mod fault;
-mod keyword;
 mod laws;
 mod lexer;
 mod spelling;
-#[cfg(test)]
-mod tests;
 mod token;
 
+pub use bb_base::Keyword;
 pub use fault::LexFault;
 pub use laws::{a_fault_stands, any_cutting, in_range, one_reading};
 pub use lexer::Lexer;
-pub use token::{Keyword, Mark, Token, TokenKind};
+pub use token::{Mark, Token, TokenKind};

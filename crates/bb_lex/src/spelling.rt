@@ -1,8 +1,8 @@
 ghost use Rattle.std.specs.Prelude.{◌≡◌, ◌<◌, ◌≤◌, length, [], ◌∷◌, IfOk, OnOk};
-ghost use Rattle.bb_net.specs.Name.{IsName, IsNameByte};
+ghost use Rattle.bb_base.specs.Name.{IsName, IsNameByte};
 ghost use Rattle.bb_lex.specs.Machine.{grown, is_short};
 
-use bb_net::Name;
+use bb_base::Name;
 use std::alloc::{AllocError, Global};
 use std::marker::Model;
 
@@ -14,7 +14,7 @@ pub(crate) struct Spelling {
 
 impl Model for Spelling {
     ghost use Rattle.std.specs.Prelude.{List, ℕ, All};
-    ghost use Rattle.bb_net.specs.Name.{IsNameByte};
+    ghost use Rattle.bb_base.specs.Name.{IsNameByte};
 
     ghost Value = { List ℕ };
 

@@ -1,23 +1,4 @@
-use bb_net::Name;
-
-/// A word that no simple name can be.
-#[derive(Clone, Copy, Debug, PartialEq, Eq)]
-pub enum Keyword {
-    Module,
-    Endmodule,
-    Input,
-    Output,
-    Wire,
-    Assign,
-    And,
-    Nand,
-    Or,
-    Nor,
-    Xor,
-    Xnor,
-    Not,
-    Buf,
-}
+use bb_base::{Keyword, Name};
 
 /// A mark of one or two bytes.
 #[derive(Clone, Copy, Debug, PartialEq, Eq)]

@@ -5,14 +5,15 @@ use Rattle.std.proofs.lemmas.List.Elements.{All-append, All-weaker, All-nil, rec
 use Rattle.std.proofs.lemmas.List.Concat.{flat_map-append}
 use Rattle.std.specs.List.{flat_map, list_any}
 use Rattle.std.specs.Option.{ForSome}
-use Rattle.bb_net.specs.declared.net.Op.{Op}
-use Rattle.bb_net.specs.declared.variable.BitName.{BitName}
-use Rattle.bb_net.specs.Net.{Gate, Flop, driven, reads, IsArity, HasArity}
-use Rattle.bb_net.specs.Name.{IsName}
-use Rattle.bb_net.specs.Bits.{IsEntry, IsBit, bit_at}
+use Rattle.bb_base.specs.declared.operator.Op.{Op}
+use Rattle.bb_base.specs.declared.variable.BitName.{BitName}
+use Rattle.bb_netlist.specs.Net.{Gate, Flop, driven, reads, HasArity}
+use Rattle.bb_base.specs.Operators.{IsArity}
+use Rattle.bb_base.specs.Name.{IsName}
+use Rattle.bb_base.specs.Variables.{IsEntry, IsBit, bit_at, bit_eq}
 use Rattle.bb_net.specs.Named.{Named, IsConsistent}
-use Rattle.bb_net.specs.Building.{started, bit_eq, with_net, with_gate, with_flop}
-use Rattle.bb_net.proofs.Lists.{in_front, in_back, map_join, same_map_at}
+use Rattle.bb_net.specs.Building.{started, with_net, with_gate, with_flop}
+use Rattle.bb_base.proofs.Lists.{in_front, in_back, map_join, same_map_at}
 
 -- nothing stands yet
 pub started_fits : (name : List ℕ) → IsName name → IsConsistent (started name)

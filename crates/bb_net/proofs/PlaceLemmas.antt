@@ -4,11 +4,11 @@ use Rattle.std.proofs.lemmas.Bool.Decides.{nat_tests}
 use Rattle.std.proofs.lemmas.List.Elements.{All-push, All-weaker, recursion_from_All, All-from_recursion, All-append}
 use Rattle.std.proofs.lemmas.List.FromFn.{length-range_with_len}
 use Rattle.std.specs.List.{AllByRecursion, range_with_len, list_any}
-use Rattle.bb_net.specs.declared.variable.Variable.{Variable}
-use Rattle.bb_net.specs.declared.variable.BitName.{BitName}
-use Rattle.bb_net.specs.Bits.{is_port, range_width, places_but, bit_at}
-use Rattle.bb_net.specs.Building.{port_bits, bit_eq, IsEarlier}
-use Rattle.bb_net.proofs.Lists.{map_join, length_map}
+use Rattle.bb_base.specs.declared.variable.Variable.{Variable}
+use Rattle.bb_base.specs.declared.variable.BitName.{BitName}
+use Rattle.bb_base.specs.Variables.{is_port, range_width, places_but, bit_at, bit_eq}
+use Rattle.bb_net.specs.Building.{port_bits, IsEarlier}
+use Rattle.bb_base.proofs.Lists.{map_join, length_map}
 
 -- a range with one more number
 pub range_push : (from n : ℕ) → range_with_len from (suc n) ≡ range_with_len from n ++ (from + n) ∷ []

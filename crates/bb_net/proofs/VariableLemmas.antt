@@ -1,24 +1,23 @@
 -- A variable behind the others keeps names, places and nets fitting together.
-use Rattle.std.proofs.Common.{◌≡◌, ◌≢◌, ℕ, ◌+◌, ◌-◌, ◌<◌, ◌≤◌, ◌==◌, nat_lt, zero, suc, List, [], ◌∷◌, ◌++◌, length, map, All, Bool, true, false, Option, Some, None, slice_get, get_or, if◌then◌else◌, refl, sym, ap, subst, ◌∙◌, arith, length-append, append_assoc, append-nil}
+use Rattle.std.proofs.Common.{◌≡◌, ◌≢◌, ℕ, ◌+◌, ◌-◌, ◌<◌, ◌≤◌, ◌==◌, nat_lt, zero, suc, List, [], ◌∷◌, ◌++◌, length, map, All, Bool, true, false, Option, Some, None, slice_get, get_or, if◌then◌else◌, refl, sym, ap, subst, ◌∙◌, arith, length-append, append_assoc, append-nil, cond}
 use Rattle.std.proofs.lemmas.Bool.Decides.{nat_tests}
 use Rattle.std.proofs.lemmas.List.Elements.{All-append, All-push, All-weaker, All-map, All-nil, All-get_or, All-from_recursion}
 use Rattle.std.proofs.lemmas.Option.{slice_get_within, get_or_from_slice_get}
-use Rattle.std.proofs.Common.{cond}
 use Rattle.std.proofs.lemmas.List.Sums.{sum_by_push}
 use Rattle.std.proofs.Math.Seq.{get_or-append_seam}
 use Rattle.std.specs.List.{AllByRecursion, range_with_len}
 use Rattle.std.specs.Option.{ForSome}
-use Rattle.bb_net.specs.declared.variable.Role.{Role}
-use Rattle.bb_net.specs.declared.variable.Role.TheVariants.{Input, Output, Wire}
-use Rattle.bb_net.specs.declared.variable.Variable.{Variable}
-use Rattle.bb_net.specs.declared.variable.BitName.{BitName}
-use Rattle.bb_net.specs.Net.{times, driven, reads}
-use Rattle.bb_net.specs.Name.{IsName}
-use Rattle.bb_net.specs.Bits.{Entry, IsEntry, IsBit, IsRange, is_input, is_output, is_port, range_width, clock_place, places_but, bit_at, data_bits, role_bits}
+use Rattle.bb_base.specs.declared.variable.Role.{Role}
+use Rattle.bb_base.specs.declared.variable.Role.TheVariants.{Input, Output, Wire}
+use Rattle.bb_base.specs.declared.variable.Variable.{Variable}
+use Rattle.bb_base.specs.declared.variable.BitName.{BitName}
+use Rattle.bb_netlist.specs.Net.{times, driven, reads}
+use Rattle.bb_base.specs.Name.{IsName}
+use Rattle.bb_base.specs.Variables.{Entry, IsEntry, IsBit, IsRange, is_input, is_output, is_port, range_width, clock_place, places_but, bit_at, data_bits, role_bits, ports_of}
 use Rattle.bb_net.specs.Named.{Named, name_of_net, IsClock, IsConsistent}
-use Rattle.bb_net.specs.Building.{clock_with, port_bits, new_nets, with_variable, MayClock, ports_of}
-use Rattle.bb_net.proofs.Lists.{in_front, map_join, get_front, get_back}
-use Rattle.bb_net.proofs.TimesLemmas.{times_join, times_past, times_range, times_range_before}
+use Rattle.bb_net.specs.Building.{clock_with, port_bits, new_nets, with_variable, MayClock}
+use Rattle.bb_base.proofs.Lists.{in_front, map_join, get_front, get_back}
+use Rattle.bb_netlist.proofs.TimesLemmas.{times_join, times_past, times_range, times_range_before}
 use Rattle.bb_net.proofs.ConsistentLemmas.{names_kept, first}
 
 -- what holds of all items holds of the one at a place
@@ -303,7 +302,3 @@ variable_added m n after name v place same h valid range ports may e =
 -- one more variable, and one more port where it is one
 pub ports_more : (vs after : List Entry) (e : Entry) → after ≡ vs ++ e ∷ [] → ports_of vs + (if is_port e.1.role then 1 else 0) ≡ ports_of after
 ports_more vs after e h = sym (ap ports_of h ∙ sum_by_push (λ (v : Entry). cond (is_port v.1.role) 1 0) vs e)
-
--- each name's variable stands
-pub names_below : (n : Named) → IsConsistent n → All (λ b. b.variable < length n.variables) n.names
-names_below n h = All-weaker (IsBit n.variables) (λ b. b.variable < length n.variables) (bit_below n.variables) n.names h.bits

@@ -1,12 +1,11 @@
 -- What the calls of a builder make of the netlist so far.
-use Rattle.std.specs.Prelude.{◌≡◌, ℕ, ◌+◌, ◌<◌, ◌≤◌, Bool, true, List, [], ◌∷◌, ◌++◌, map, length, Option, None, Some, if◌then◌else◌, nat_eq, ◌&&◌, position, count_by}
+use Rattle.std.specs.Prelude.{◌≡◌, ℕ, ◌+◌, ◌<◌, ◌≤◌, Bool, true, List, [], ◌∷◌, ◌++◌, map, length, Option, None, Some, if◌then◌else◌, position, slice_get}
 use Rattle.std.specs.List.{list_any, range_with_len}
-use Rattle.bb_net.specs.declared.net.Op.{Op}
-use Rattle.bb_net.specs.declared.variable.Variable.{Variable}
-use Rattle.bb_net.specs.declared.variable.BitName.{BitName}
-use Rattle.bb_net.specs.declared.builder.NetFault.{NetFault}
-use Rattle.bb_net.specs.declared.builder.NetFault.TheVariants.{Redeclared, TwoDrivers, Undriven, BadArity, TooMany, NoMemory}
-use Rattle.bb_net.specs.Bits.{Entry, range_width, is_input, is_output, is_port, bit_at, places_but}
+use Rattle.bb_base.specs.declared.operator.Op.{Op}
+use Rattle.bb_base.specs.declared.variable.Variable.{Variable}
+use Rattle.bb_base.specs.declared.variable.BitName.{BitName}
+use Rattle.bb_base.specs.Variables.{Entry, Bit, bit_in, range_width, is_input, is_output, is_port, bit_at, places_but, bit_eq}
+use Rattle.bb_netlist.specs.Net.{Gate, Flop}
 use Rattle.bb_net.specs.Named.{Named, lookup_of}
 
 -- at most so many nets are built
@@ -60,10 +59,6 @@ pub record IsTooMany (n : Named) (name : List ℕ) (v : Variable) (place : Optio
   pub limit_is : limit ≡ net_limit
   pub beyond : limit < count
 
--- two bit names are one
-abbrev pub bit_eq : BitName → BitName → Bool
-bit_eq a b = nat_eq a.variable b.variable && nat_eq a.place b.place
-
 -- the net of a bit
 abbrev pub find_of : BitName → Named → Option ℕ
 find_of bit n = position (bit_eq bit) n.names
@@ -80,54 +75,32 @@ with_gate n op out ins = record n { netlist = record n.netlist { gates = n.netli
 abbrev pub with_flop : Named → ℕ → ℕ → Named
 with_flop n q d = record n { netlist = record n.netlist { flops = n.netlist.flops ++ record { q = q; d = d } ∷ [] } }
 
--- the faults of a call that adds a gate
-abbrev pub IsGateFault : NetFault → Type 0
-IsGateFault (Redeclared v) = ⊥
-IsGateFault (TwoDrivers net) = ⊥
-IsGateFault (Undriven net) = ⊥
-IsGateFault (BadArity gate) = Unit {0}
-IsGateFault (TooMany count limit) = ⊥
-IsGateFault NoMemory = Unit {0}
+-- more gates, and more flip-flops, behind the others
+abbrev pub with_gates : Named → List (Gate ℕ) → Named
+with_gates n gates = record n { netlist = record n.netlist { gates = n.netlist.gates ++ gates } }
 
--- of one that adds a variable
-abbrev pub IsVariableFault : NetFault → Type 0
-IsVariableFault (Redeclared v) = Unit {0}
-IsVariableFault (TwoDrivers net) = ⊥
-IsVariableFault (Undriven net) = ⊥
-IsVariableFault (BadArity gate) = ⊥
-IsVariableFault (TooMany count limit) = Unit {0}
-IsVariableFault NoMemory = Unit {0}
+abbrev pub with_flops : Named → List (Flop ℕ) → Named
+with_flops n flops = record n { netlist = record n.netlist { flops = n.netlist.flops ++ flops } }
 
--- of one that adds a net
-abbrev pub IsNetCallFault : NetFault → Type 0
-IsNetCallFault (Redeclared v) = ⊥
-IsNetCallFault (TwoDrivers net) = ⊥
-IsNetCallFault (Undriven net) = ⊥
-IsNetCallFault (BadArity gate) = ⊥
-IsNetCallFault (TooMany count limit) = Unit {0}
-IsNetCallFault NoMemory = Unit {0}
+-- every item stands where it stood
+abbrev pub KeepsAll : {X : Type 0} → List X → List X → Type 0
+KeepsAll {X} old new = (i : ℕ) (x : X) → slice_get old i ≡ Some x → slice_get new i ≡ Some x
 
--- and of the last call
-abbrev pub IsFinishFault : NetFault → Type 0
-IsFinishFault (Redeclared v) = ⊥
-IsFinishFault (TwoDrivers net) = Unit {0}
-IsFinishFault (Undriven net) = Unit {0}
-IsFinishFault (BadArity gate) = ⊥
-IsFinishFault (TooMany count limit) = ⊥
-IsFinishFault NoMemory = Unit {0}
+-- variables and nets are added, and nothing else changes
+pub record Grows (old new : Named) : Type 0 where
+  pub module_name : new.module_name ≡ old.module_name
+  pub variables : KeepsAll old.variables new.variables
+  pub names : KeepsAll old.names new.names
+  pub gates : new.netlist.gates ≡ old.netlist.gates
+  pub flops : new.netlist.flops ≡ old.netlist.flops
 
--- how many variables are ports
-abbrev pub ports_of : List Entry → ℕ
-ports_of variables = count_by (λ v. is_port v.1.role) variables
-
--- of a look at the drivers
-abbrev pub IsDriverFault : NetFault → Type 0
-IsDriverFault (Redeclared v) = ⊥
-IsDriverFault (TwoDrivers net) = Unit {0}
-IsDriverFault (Undriven net) = Unit {0}
-IsDriverFault (BadArity gate) = ⊥
-IsDriverFault (TooMany count limit) = ⊥
-IsDriverFault NoMemory = ⊥
+-- the number is a net of this name
+pub record IsNet (n : Named) (net : ℕ) (text : Bit) : Type 0 where
+  pub bit : BitName
+  pub stands : slice_get n.names net ≡ Some bit
+  pub entry : Entry
+  pub declared : slice_get n.variables bit.variable ≡ Some entry
+  pub text_is : bit_in (Some entry) bit.place ≡ text
 
 -- the bit comes before those of this variable from this place on
 abbrev pub IsEarlier : ℕ → ℕ → BitName → Type 0

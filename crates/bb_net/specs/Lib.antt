@@ -1,10 +1,3 @@
-pub mod Net
-pub mod Run
-pub mod Name
-pub mod NameLaws
-pub mod Bits
 pub mod Named
+pub mod Sites
 pub mod Building
-pub mod Drivers
-pub mod Order
-pub mod Levels

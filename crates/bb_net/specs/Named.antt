@@ -2,10 +2,10 @@
 use Rattle.std.specs.Prelude.{◌≡◌, ◌≢◌, ◌↔◌, ℕ, ◌<◌, ◌≤◌, true, List, ◌++◌, map, length, All, AllPairs, Option, Some, IsSome, slice_get, slice_index_or, position}
 use Rattle.std.specs.Option.{option_map, ForSome}
 use Rattle.std.specs.Str.{bytes_eq}
-use Rattle.bb_net.specs.Net.{Netlist, renamed, driven, reads, times, HasArity, IsNetlist}
-use Rattle.bb_net.specs.Name.{IsName}
-use Rattle.bb_net.specs.Bits.{Entry, IsEntry, Bit, IsBit, bit_of, is_input, is_output, is_port, role_bits}
-use Rattle.bb_net.specs.declared.variable.BitName.{BitName}
+use Rattle.bb_netlist.specs.Net.{Netlist, renamed, driven, reads, times, HasArity, IsNetlist}
+use Rattle.bb_base.specs.Name.{IsName}
+use Rattle.bb_base.specs.Variables.{Entry, IsEntry, Bit, IsBit, bit_of, is_input, is_output, is_port, role_bits, StandsBefore}
+use Rattle.bb_base.specs.declared.variable.BitName.{BitName}
 
 -- a netlist whose nets are numbers, with its module's name, its variables in order, its clock's bit, and the bit name of each net
 pub record Named : Type 0 where
@@ -73,3 +73,7 @@ pub record IsNamed (n : Named) : Type 0 where
   pub apart : AllPairs (λ v w. v.0 ≢ w.0) n.variables
   -- there is a clock exactly where there is a flip-flop
   pub clocked : IsSome n.clock ↔ (0 < length n.netlist.flops)
+
+-- nets are numbered by variables, and from left to right
+abbrev pub IsByBits : Named → Type 0
+IsByBits n = AllPairs StandsBefore n.names

@@ -1,55 +1,24 @@
 ghost use Rattle.std.specs.Prelude.{◌≡◌, ◌≢◌, ◌↔◌, ◌<◌, ◌≤◌, ◌+◌, ◌-◌, ◌^◌, ◌++◌, ◌∷◌, [], ℕ, length, map, take, All, IfOk, OnOk, OnErr, IfErr, IsErrOf, IfSome, IsSome, None, Some, slice_get, true, IsTrue, if◌then◌else◌};
 ghost use Rattle.std.specs.Option.{ForSome};
 ghost use Rattle.std.specs.List.{range_with_len};
-ghost use Rattle.bb_net.specs.Net.{driven, times, IsArity};
-ghost use Rattle.bb_net.specs.Bits.{IsBit, IsRange, range_width, is_input, is_output, is_port, bit_at, places_but};
+ghost use Rattle.bb_netlist.specs.Net.{driven, times};
+ghost use Rattle.bb_base.specs.Operators.{IsArity};
+ghost use Rattle.bb_base.specs.Variables.{IsBit, IsRange, range_width, is_input, is_output, is_port, bit_at, places_but};
 ghost use Rattle.bb_net.specs.Named.{lookup_of, IsNamed};
-ghost use Rattle.bb_net.specs.Building.{started, net_limit, port_bits, new_nets, with_variable, MayClock, with_net, with_gate, with_flop, clock_with, IsTooMany, IsGateFault, IsVariableFault, IsNetCallFault, IsFinishFault, IsEarlier};
-ghost use Rattle.bb_net.specs.Drivers.{IsFirst};
-ghost use Rattle.bb_net.specs.declared.builder.NetFault.TheVariants.{NoMemory};
+ghost use Rattle.bb_netlist.specs.Faults.{IsGateFault, IsVariableFault, IsNetCallFault, IsFinishFault};
+ghost use Rattle.bb_net.specs.Building.{started, net_limit, port_bits, new_nets, with_variable, MayClock, with_net, with_gate, with_flop, clock_with, IsTooMany, IsEarlier};
+ghost use Rattle.bb_base.specs.Firsts.{IsFirst};
 
-use crate::drivers::{driven_nets, place_drivers};
-use crate::variable::{is_port_role, width_of};
-use crate::{BitName, Flop, Gate, Name, Named, NetId, Netlist, Op, Role, Variable};
+use crate::Named;
+use bb_base::{BitName, Name, Op, Role, Variable, has_arity, is_port_role, width_of};
+use bb_netlist::{Flop, Gate, NetFault, NetId, Netlist};
 use indexmap::{IndexMap, IndexSet};
 use smallvec::SmallVec;
-use std::alloc::{AllocError, AllocFailed, Global};
+use std::alloc::{AllocError, Global};
 use std::marker::Model;
 
 /// The most nets that a builder makes.
 const NET_LIMIT: u64 = 134_217_728;
-
-/// Why a builder refuses.
-#[derive(Clone, Copy, Debug, PartialEq, Eq)]
-pub enum NetFault {
-    /// The name stands already, for the variable of this number.
-    Redeclared { variable: u32 },
-    /// Two drivers of one net.
-    TwoDrivers { net: NetId },
-    /// No driver of a net.
-    Undriven { net: NetId },
-    /// An operator with a number of inputs that it doesn't take.
-    BadArity { gate: u32 },
-    /// More nets than are built: their number, and the most.
-    TooMany { count: u64, limit: u64 },
-    NoMemory,
-}
-
-impl From<AllocError> for NetFault {
-    ghost from_gives = { λ _ e. e ≡ NoMemory };
-
-    fn from(_: AllocError) -> Self {
-        NetFault::NoMemory
-    }
-}
-
-impl<T: Drop> From<AllocFailed<T>> for NetFault {
-    ghost from_gives = { λ _ e. e ≡ NoMemory };
-
-    fn from(_: AllocFailed<T>) -> Self {
-        NetFault::NoMemory
-    }
-}
 
 /// A named netlist that is being built: variables first, then nets, gates and flip-flops in any order.
 #[derive(Drop)]
@@ -69,7 +38,8 @@ pub struct Builder {
 impl Model for Builder {
     ghost use Rattle.std.specs.Prelude.{◌≡◌, ◌<◌, ◌≤◌, ◌^◌, length};
     ghost use Rattle.bb_net.specs.Named.{Named as NamedValue, IsConsistent};
-    ghost use Rattle.bb_net.specs.Building.{net_limit, ports_of};
+    ghost use Rattle.bb_net.specs.Building.{net_limit};
+    ghost use Rattle.bb_base.specs.Variables.{ports_of};
 
     ghost Value = { NamedValue };
 
@@ -264,17 +234,9 @@ impl Builder {
         // `len` ensures that no two names are alike.
         let _variables = variables.len();
         let nets = names.len() as u32;
-        let driven = driven_nets(alloc, &inputs, &gates, &flops)?;
-        let places = match place_drivers(alloc, &driven, nets) {
-            Ok(places) => places,
+        let netlist = match Netlist::new(alloc, nets, inputs, outputs, gates, flops) {
+            Ok(netlist) => netlist,
             Err(fault) => return Err(fault),
-        };
-        let netlist = Netlist {
-            inputs,
-            outputs,
-            gates,
-            flops,
-            places,
         };
         Ok(Named {
             module,
@@ -304,17 +266,6 @@ fn clock_after(clock: Option<BitName>, variable: u32, place: Option<u32>) -> Opt
     match place {
         Some(place) => Some(BitName { variable, place }),
         None => clock,
-    }
-}
-
-/// Whether an operator takes so many inputs.
-fn has_arity(op: Op, count: usize) -> bool
-    ensures { IsTrue result ↔ IsArity op count }
-{
-    match op {
-        Op::Not | Op::Buf => count == 1,
-        Op::Zero | Op::One => count == 0,
-        _ => count > 0,
     }
 }
 

@@ -1,8 +1,10 @@
-ghost use Rattle.std.specs.Prelude.{◌≡◌, ◌<◌, ◌↔◌, ◌^◌, length, map, Some, None, IfSome, IsNone, Contains, Option, slice_get, IsSome};
+ghost use Rattle.std.specs.Prelude.{◌≡◌, ◌<◌, ◌≤◌, ◌↔◌, ◌^◌, length, map, Some, None, IfSome, IsNone, Contains, Option, slice_get, IsSome};
 ghost use Rattle.bb_net.specs.Named.{lookup_of, IsNamed};
-ghost use Rattle.bb_net.specs.Building.{find_of, ports_of};
+ghost use Rattle.bb_net.specs.Building.{find_of, net_limit};
+ghost use Rattle.bb_base.specs.Variables.{ports_of};
 
-use crate::{BitName, Name, NetId, Netlist, Variable};
+use bb_base::{BitName, Name, Variable};
+use bb_netlist::{NetId, Netlist};
 use indexmap::{IndexMap, IndexSet};
 use std::marker::Model;
 
@@ -22,7 +24,8 @@ pub struct Named {
 impl Model for Named {
     ghost use Rattle.std.specs.Prelude.{◌≡◌, ◌<◌, ◌≤◌, ◌^◌, length};
     ghost use Rattle.bb_net.specs.Named.{Named as NamedValue, IsNamed};
-    ghost use Rattle.bb_net.specs.Building.{net_limit, ports_of};
+    ghost use Rattle.bb_net.specs.Building.{net_limit};
+    ghost use Rattle.bb_base.specs.Variables.{ports_of};
 
     ghost Value = { NamedValue };
 
@@ -35,6 +38,7 @@ impl Named {
     /// The nets and what drives them.
     pub fn netlist(&self) -> &Netlist
         ensures value { result.now ≡ self.now.netlist }
+        ensures few { length self.now.names ≤ net_limit }
         ensures named { IsNamed self.now }
     {
         &self.netlist
@@ -51,6 +55,7 @@ impl Named {
     /// How many variables there are.
     pub fn variables(&self) -> u32
         ensures count { result ≡ length self.now.variables }
+        ensures few { length self.now.variables < 2 ^ 32 }
         ensures named { IsNamed self.now }
     {
         self.variables.len() as u32

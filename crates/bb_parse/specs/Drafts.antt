@@ -1,8 +1,8 @@
 -- What is put into a module and into its statements as their tokens come.
 use Rattle.std.specs.Prelude.{ℕ, List, [], ◌∷◌, ◌++◌, Option, Some, None}
-use Rattle.bb_net.specs.declared.net.Op.TheVariants as ops
-use Rattle.bb_net.specs.declared.variable.Role.{Role}
-use Rattle.bb_net.specs.declared.variable.Role.TheVariants as roles
+use Rattle.bb_base.specs.declared.operator.Op.TheVariants as ops
+use Rattle.bb_base.specs.declared.variable.Role.{Role}
+use Rattle.bb_base.specs.declared.variable.Role.TheVariants as roles
 use Rattle.bb_parse.specs.declared.draft.Draft.{Draft}
 use Rattle.bb_parse.specs.declared.symbol.Place.{Place}
 use Rattle.bb_parse.specs.declared.symbol.Place.TheVariants as places
@@ -84,15 +84,15 @@ abbrev pub instance_done : Draft → Draft
 instance_done d = instance_of d.cell d
 
 -- a pin is complete, open or with an expression
-abbrev pub pin_of : Option Name → Option (List Step) → Draft → Draft
-pin_of None value d = d
-pin_of (Some x) value d = record d { pins = d.pins ++ (x, value) ∷ []; pin = None; steps = [] }
+abbrev pub pin_put : Option Name → Option (List Step) → Draft → Draft
+pin_put None value d = d
+pin_put (Some x) value d = record d { pins = d.pins ++ (x, value) ∷ []; pin = None; steps = [] }
 
 abbrev pub open_pin_done : Draft → Draft
-open_pin_done d = pin_of d.pin None d
+open_pin_done d = pin_put d.pin None d
 
 abbrev pub pin_done : Draft → Draft
-pin_done d = pin_of d.pin (Some d.steps) d
+pin_done d = pin_put d.pin (Some d.steps) d
 
 -- a header with directions has a port
 abbrev pub header_by : List Name → List Decl → HeaderValue

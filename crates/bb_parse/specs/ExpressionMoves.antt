@@ -11,7 +11,7 @@ use Rattle.bb_parse.specs.declared.symbol.Made.TheVariants as made
 use Rattle.bb_parse.specs.declared.symbol.Symbol.TheVariants as symbols
 use Rattle.bb_parse.specs.declared.syntax.Step.TheVariants as steps
 use Rattle.bb_parse.specs.Drafts.{put, ref_done}
-use Rattle.bb_parse.specs.Moves.{Move, behind, goes}
+use Rattle.bb_parse.specs.Moves.{Move, with_behind, goes}
 
 -- an operand with its prefixes
 abbrev pub read_unary : TokenKind → Draft → Move
@@ -23,7 +23,7 @@ read_unary (kinds.Mark marks.LeftBrace) d = goes (symbols.Braced ∷ []) d
 read_unary _ d = None
 
 abbrev pub read_expr : TokenKind → Draft → Move
-read_expr k d = behind (symbols.Operators ∷ []) (read_unary k d)
+read_expr k d = with_behind (symbols.Operators ∷ []) (read_unary k d)
 
 abbrev pub read_select : Side → TokenKind → Draft → Move
 read_select side (kinds.Mark marks.LeftBracket) d = goes (symbols.SelectFrom side ∷ []) d
@@ -52,7 +52,7 @@ begin_repeat n d = if n == 0 then None else goes (symbols.Mark marks.LeftBrace �
 
 abbrev pub read_braced : TokenKind → Draft → Move
 read_braced (kinds.Number n) d = begin_repeat n d
-read_braced k d = behind (symbols.Joined 1 ∷ []) (read_expr k d)
+read_braced k d = with_behind (symbols.Joined 1 ∷ []) (read_expr k d)
 
 abbrev pub read_joined : ℕ → TokenKind → Draft → Move
 read_joined n (kinds.Mark marks.Comma) d = goes (symbols.Expr ∷ symbols.Joined (n + 1) ∷ []) d

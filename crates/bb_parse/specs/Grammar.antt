@@ -1,12 +1,12 @@
 -- The grammar: the tokens that each syntax tree spans. This project's profile of Verilog (IEEE 1364).
 use Rattle.std.specs.Prelude.{◌≡◌, ◌≤◌, ℕ, Bool, true, false, List, Option, Some, None}
-use Rattle.bb_lex.specs.declared.token.Keyword.{Keyword}
-use Rattle.bb_lex.specs.declared.token.Keyword.TheVariants as keys
+use Rattle.bb_base.specs.declared.keyword.Keyword.{Keyword}
+use Rattle.bb_base.specs.declared.keyword.Keyword.TheVariants as keys
 use Rattle.bb_lex.specs.declared.token.Mark.{Mark}
 use Rattle.bb_lex.specs.declared.token.Mark.TheVariants as marks
 use Rattle.bb_lex.specs.declared.token.TokenKind.TheVariants as kinds
-use Rattle.bb_net.specs.declared.net.Op.{Op}
-use Rattle.bb_net.specs.declared.net.Op.TheVariants as ops
+use Rattle.bb_base.specs.declared.operator.Op.{Op}
+use Rattle.bb_base.specs.declared.operator.Op.TheVariants as ops
 use Rattle.bb_parse.specs.Spans.{Span, ◌⨾◌, nothing, such, word_at, word, key, mark, name, number, many}
 use Rattle.bb_parse.specs.Trees.{Name, Select, Whole, Bit, Part, XorMark, ByCaret, ByTildeCaret, ByCaretTilde, Expr, AnExpr, Choice, NoChoice, Choose, Or, AnOr, Ors, NoOrs, MoreOrs, Xor, AnXor, Xors, NoXors, MoreXors, And, AnAnd, Ands, NoAnds, MoreAnds, Unary, Complement, Reference, Constant, Parens, Braces, Repeated, Exprs, NoExprs, MoreExprs, Terms, Left, Target, Targets, Lefts, NoLefts, MoreLefts, Direction, In, Out, Typed, Port, Again, Anew, Header, NoHeader, NoPorts, PlainPorts, TypedPorts, Equation, Gate, Pin, Conns, Places, NoPins, Pins, Instance, Statement, Directs, Wires, Assigns, Gates, Cells, File}
 
@@ -141,12 +141,12 @@ gate_op keys.Wire = None
 gate_op keys.Assign = None
 
 -- [name] terms
-abbrev pub named : Option Name → Span
-named None = nothing
-named (Some x) = name x
+abbrev pub maybe_name : Option Name → Span
+maybe_name None = nothing
+maybe_name (Some x) = name x
 
 abbrev pub gate : Gate → Span
-gate g = named g.instance ⨾ terms g.terms
+gate g = maybe_name g.instance ⨾ terms g.terms
 
 -- pin = "." name "(" [expr] ")"
 abbrev pub maybe_expr : Option Expr → Span

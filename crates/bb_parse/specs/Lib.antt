@@ -10,3 +10,4 @@ pub mod ExpressionMoves
 pub mod StatementMoves
 pub mod Machine
 pub mod Standing
+pub mod Texts

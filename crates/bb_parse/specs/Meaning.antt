@@ -1,15 +1,12 @@
 -- The module that a syntax tree stands for, and the one that a list of tokens denotes.
-use Rattle.std.specs.Prelude.{◌≡◌, ℕ, ◌+◌, ◌^◌, ◌<◌, List, [], ◌∷◌, ◌++◌, map, Option, Some, None}
+use Rattle.std.specs.Prelude.{◌≡◌, ℕ, ◌+◌, List, [], ◌∷◌, ◌++◌, map, Option, Some, None}
 use Rattle.std.specs.Option.{option_map}
 use Rattle.std.specs.List.{AllByRecursion}
 use Rattle.bb_lex.specs.declared.token.Token.{Token}
-use Rattle.bb_lex.specs.declared.token.TokenKind.{TokenKind}
-use Rattle.bb_lex.specs.declared.token.TokenKind.TheVariants as kinds
-use Rattle.bb_lex.specs.Ranges.{IsSize}
-use Rattle.bb_net.specs.Name.{IsName}
-use Rattle.bb_net.specs.declared.net.Op.{Op}
-use Rattle.bb_net.specs.declared.variable.Role.{Role}
-use Rattle.bb_net.specs.declared.variable.Role.TheVariants as roles
+use Rattle.bb_lex.specs.Ranges.{IsProper}
+use Rattle.bb_base.specs.declared.operator.Op.{Op}
+use Rattle.bb_base.specs.declared.variable.Role.{Role}
+use Rattle.bb_base.specs.declared.variable.Role.TheVariants as roles
 use Rattle.bb_parse.specs.declared.syntax.Ref.{Ref as RefValue}
 use Rattle.bb_parse.specs.declared.syntax.Step.{Step}
 use Rattle.bb_parse.specs.declared.syntax.Step.TheVariants as steps
@@ -103,29 +100,29 @@ abbrev mutual
   more_targets NoLefts = []
   more_targets (MoreLefts l ls) = targets l ++ more_targets ls
 
-abbrev pub role_of : Direction → Role
-role_of In = roles.Input
-role_of Out = roles.Output
+abbrev pub direction_role : Direction → Role
+direction_role In = roles.Input
+direction_role Out = roles.Output
 
 -- a name that is declared; of `wire` behind a direction nothing is kept
 abbrev pub decl : ℕ → Role → Option (ℕ × ℕ) → Name → Decl
 decl line role range x = record { line = line; role = role; range = range; name = x }
 
 abbrev pub typed_decl : ℕ → Typed → Name → Decl
-typed_decl line t x = decl line (role_of t.direction) t.range x
+typed_decl line t x = decl line (direction_role t.direction) t.range x
 
 -- a port without a direction takes the type of the one before it
-abbrev pub ports_of : ℕ → Typed → List Port → List Decl
-ports_of line t [] = []
-ports_of line t (Again x ∷ ps) = typed_decl line t x ∷ ports_of line t ps
-ports_of line t (Anew u x ∷ ps) = typed_decl line u x ∷ ports_of line u ps
+abbrev pub port_decls : ℕ → Typed → List Port → List Decl
+port_decls line t [] = []
+port_decls line t (Again x ∷ ps) = typed_decl line t x ∷ port_decls line t ps
+port_decls line t (Anew u x ∷ ps) = typed_decl line u x ∷ port_decls line u ps
 
 -- the header of a module that begins in this line
 abbrev pub header_of : ℕ → Header → HeaderValue
 header_of line NoHeader = headers.Plain []
 header_of line NoPorts = headers.Plain []
 header_of line (PlainPorts x xs) = headers.Plain (x ∷ xs)
-header_of line (TypedPorts t x ps) = headers.Ansi (typed_decl line t x ∷ ports_of line t ps)
+header_of line (TypedPorts t x ps) = headers.Ansi (typed_decl line t x ∷ port_decls line t ps)
 
 abbrev pub pin_of : Pin → Name × Option (List Step)
 pin_of p = (p.name, option_map steps_of p.value)
@@ -162,17 +159,6 @@ module_of f = record { name = f.name; header = header_of f.line f.header; items 
 -- the tokens are a whole module, and it is this one
 abbrev pub Denotes : List Token → Module → Type 0
 Denotes tokens value = (f : File) × file f tokens [] × (module_of f ≡ value)
-
--- a token that a text may have: its name is one, and its number is in its range
-abbrev pub IsProperKind : TokenKind → Type 0
-IsProperKind (kinds.Key keyword) = Unit {0}
-IsProperKind (kinds.Name x) = IsName x
-IsProperKind (kinds.Number n) = n < 2147483648
-IsProperKind (kinds.Const size value) = IsSize size × (value < 2 ^ size)
-IsProperKind (kinds.Mark m) = Unit {0}
-
-abbrev pub IsProper : Token → Type 0
-IsProper token = IsProperKind token.kind
 
 -- more tokens that a text may have make these a whole module
 abbrev pub IsFront : List Token → Type 0

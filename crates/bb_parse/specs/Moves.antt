@@ -1,10 +1,10 @@
 -- How a token is taken by each symbol of a header and of declarations.
 use Rattle.std.specs.Prelude.{ℕ, List, [], ◌∷◌, ◌++◌, Option, Some, None}
-use Rattle.bb_lex.specs.declared.token.Keyword.TheVariants as keys
+use Rattle.bb_base.specs.declared.keyword.Keyword.TheVariants as keys
 use Rattle.bb_lex.specs.declared.token.Mark.TheVariants as marks
 use Rattle.bb_lex.specs.declared.token.TokenKind.{TokenKind}
 use Rattle.bb_lex.specs.declared.token.TokenKind.TheVariants as kinds
-use Rattle.bb_net.specs.declared.variable.Role.TheVariants as roles
+use Rattle.bb_base.specs.declared.variable.Role.TheVariants as roles
 use Rattle.bb_parse.specs.declared.draft.Draft.{Draft}
 use Rattle.bb_parse.specs.declared.symbol.Place.{Place}
 use Rattle.bb_parse.specs.declared.symbol.Place.TheVariants as places
@@ -21,9 +21,9 @@ abbrev pub goes : List Symbol → Draft → Move
 goes new d = Some (new, d)
 
 -- a move, and more symbols behind its own
-abbrev pub behind : List Symbol → Move → Move
-behind more None = None
-behind more (Some m) = Some (m.0 ++ more, m.1)
+abbrev pub with_behind : List Symbol → Move → Move
+with_behind more None = None
+with_behind more (Some m) = Some (m.0 ++ more, m.1)
 
 abbrev pub read_file : TokenKind → ℕ → Draft → Move
 read_file (kinds.Key keys.Module) line d = goes (symbols.ModuleName ∷ symbols.Header ∷ symbols.Items ∷ []) (record d { line = line })
@@ -38,19 +38,19 @@ read_header (kinds.Mark marks.Semicolon) d = goes [] d
 read_header (kinds.Mark marks.LeftParen) d = goes (symbols.Ports ∷ symbols.Mark marks.Semicolon ∷ []) d
 read_header _ d = None
 
-abbrev pub with_name : Name → Draft → Draft
-with_name x d = record d { names = d.names ++ x ∷ [] }
+abbrev pub with_module_name : Name → Draft → Draft
+with_module_name x d = record d { names = d.names ++ x ∷ [] }
 
 -- a port with a direction: its line is that of `module`
 abbrev pub read_ports : TokenKind → Draft → Move
 read_ports (kinds.Mark marks.RightParen) d = goes [] d
-read_ports (kinds.Name x) d = goes (symbols.MoreNames ∷ []) (with_name x d)
+read_ports (kinds.Name x) d = goes (symbols.MoreNames ∷ []) (with_module_name x d)
 read_ports (kinds.Key keys.Input) d = goes (symbols.Type places.Header ∷ symbols.MorePorts ∷ []) (begin_decl d.line roles.Input d)
 read_ports (kinds.Key keys.Output) d = goes (symbols.Type places.Header ∷ symbols.MorePorts ∷ []) (begin_decl d.line roles.Output d)
 read_ports _ d = None
 
 abbrev pub read_plain_name : TokenKind → Draft → Move
-read_plain_name (kinds.Name x) d = goes [] (with_name x d)
+read_plain_name (kinds.Name x) d = goes [] (with_module_name x d)
 read_plain_name _ d = None
 
 abbrev pub read_more_names : TokenKind → Draft → Move

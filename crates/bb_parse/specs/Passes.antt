@@ -31,20 +31,20 @@ abbrev pub is_question : TokenKind → Bool
 is_question (kinds.Mark marks.Question) = true
 is_question _ = false
 
-abbrev pub is_operator : TokenKind → Bool
-is_operator (kinds.Mark marks.Amp) = true
-is_operator (kinds.Mark marks.Caret) = true
-is_operator (kinds.Mark marks.TildeCaret) = true
-is_operator (kinds.Mark marks.CaretTilde) = true
-is_operator (kinds.Mark marks.Bar) = true
-is_operator (kinds.Mark marks.Question) = true
-is_operator _ = false
+abbrev pub begins_operator : TokenKind → Bool
+begins_operator (kinds.Mark marks.Amp) = true
+begins_operator (kinds.Mark marks.Caret) = true
+begins_operator (kinds.Mark marks.TildeCaret) = true
+begins_operator (kinds.Mark marks.CaretTilde) = true
+begins_operator (kinds.Mark marks.Bar) = true
+begins_operator (kinds.Mark marks.Question) = true
+begins_operator _ = false
 
 -- the symbol is empty, and the token is for what follows behind it
 abbrev pub passes : Symbol → TokenKind → Bool
 passes (symbols.Put m) k = true
 passes (symbols.Select side) k = not (is_bracket k)
-passes symbols.Operators k = not (is_operator k)
+passes symbols.Operators k = not (begins_operator k)
 passes symbols.Ands k = not (is_amp k)
 passes symbols.Xors k = not (is_xor k)
 passes symbols.Ors k = not (is_bar k)

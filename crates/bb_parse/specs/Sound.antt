@@ -1,9 +1,11 @@
--- Modules whose names are names and whose numbers are in their ranges, as those of a text are.
+-- Modules whose names are names, whose numbers are in their ranges and whose gates have operators of keywords, as those of a text.
 use Rattle.std.specs.Prelude.{◌^◌, ◌<◌, ◌≤◌, List, Option, Some, None}
 use Rattle.std.specs.List.{AllByRecursion}
 use Rattle.bb_lex.specs.Ranges.{IsSize}
-use Rattle.bb_net.specs.Bits.{IsRange}
-use Rattle.bb_net.specs.Name.{IsName}
+use Rattle.bb_base.specs.declared.operator.Op.{Op}
+use Rattle.bb_base.specs.declared.operator.Op.TheVariants as ops
+use Rattle.bb_base.specs.Variables.{IsRange}
+use Rattle.bb_base.specs.Name.{IsName}
 use Rattle.bb_parse.specs.declared.syntax.Ref.{Ref}
 use Rattle.bb_parse.specs.declared.syntax.Step.{Step}
 use Rattle.bb_parse.specs.declared.syntax.Step.TheVariants as steps
@@ -49,10 +51,16 @@ abbrev pub IsSoundConns : Conns → Type 0
 IsSoundConns (conns.Places terms) = AllByRecursion IsSoundExpr terms
 IsSoundConns (conns.Pins pins) = AllByRecursion IsSoundPin pins
 
+-- an operator that a keyword names: any but a constant's
+abbrev pub IsPrimitive : Op → Type 0
+IsPrimitive ops.Zero = ⊥
+IsPrimitive ops.One = ⊥
+IsPrimitive op = Unit {0}
+
 abbrev pub IsSoundItem : Item → Type 0
 IsSoundItem (items.Decl d) = IsSoundDecl d
 IsSoundItem (items.Assign line left right) = AllByRecursion IsSoundRef left × IsSoundExpr right
-IsSoundItem (items.Prim line op terms) = AllByRecursion IsSoundExpr terms
+IsSoundItem (items.Prim line op terms) = IsPrimitive op × AllByRecursion IsSoundExpr terms
 IsSoundItem (items.Cell line x c) = IsName x × IsSoundConns c
 
 abbrev pub IsSoundHeader : Header → Type 0

@@ -1,6 +1,6 @@
 -- Spans of tokens: a relation of the tokens from one place on to those from a later place on (after Pereira and Warren, 1980).
 use Rattle.std.specs.Prelude.{◌≡◌, ℕ, List, [], ◌∷◌}
-use Rattle.bb_lex.specs.declared.token.Keyword.{Keyword}
+use Rattle.bb_base.specs.declared.keyword.Keyword.{Keyword}
 use Rattle.bb_lex.specs.declared.token.Mark.{Mark}
 use Rattle.bb_lex.specs.declared.token.Token.{Token}
 use Rattle.bb_lex.specs.declared.token.TokenKind.{TokenKind}

@@ -1,19 +1,19 @@
 -- How a token is taken by each symbol of statements.
 use Rattle.std.specs.Prelude.{ℕ, [], ◌∷◌, Option, Some, None}
-use Rattle.bb_lex.specs.declared.token.Keyword.{Keyword}
-use Rattle.bb_lex.specs.declared.token.Keyword.TheVariants as keys
+use Rattle.bb_base.specs.declared.keyword.Keyword.{Keyword}
+use Rattle.bb_base.specs.declared.keyword.Keyword.TheVariants as keys
 use Rattle.bb_lex.specs.declared.token.Mark.TheVariants as marks
 use Rattle.bb_lex.specs.declared.token.TokenKind.{TokenKind}
 use Rattle.bb_lex.specs.declared.token.TokenKind.TheVariants as kinds
-use Rattle.bb_net.specs.declared.net.Op.{Op}
-use Rattle.bb_net.specs.declared.variable.Role.TheVariants as roles
+use Rattle.bb_base.specs.declared.operator.Op.{Op}
+use Rattle.bb_base.specs.declared.variable.Role.TheVariants as roles
 use Rattle.bb_parse.specs.declared.draft.Draft.{Draft}
 use Rattle.bb_parse.specs.declared.symbol.Place.TheVariants as places
 use Rattle.bb_parse.specs.declared.symbol.Side.TheVariants as sides
 use Rattle.bb_parse.specs.declared.symbol.Symbol.TheVariants as symbols
 use Rattle.bb_parse.specs.Grammar.{gate_op}
 use Rattle.bb_parse.specs.Drafts.{begin_decl, equation_done, term_done, gate_done, instance_done, open_pin_done, pin_done}
-use Rattle.bb_parse.specs.Moves.{Move, behind, goes}
+use Rattle.bb_parse.specs.Moves.{Move, with_behind, goes}
 use Rattle.bb_parse.specs.ExpressionMoves.{read_expr}
 
 -- gates of an operator begin in a line, where the keyword has one
@@ -50,7 +50,7 @@ read_more_lefts (kinds.Mark marks.RightBrace) d = goes [] d
 read_more_lefts _ d = None
 
 abbrev pub read_equation : TokenKind → Draft → Move
-read_equation k d = behind (symbols.Mark marks.Equals ∷ symbols.Expr ∷ []) (read_left k d)
+read_equation k d = with_behind (symbols.Mark marks.Equals ∷ symbols.Expr ∷ []) (read_left k d)
 
 abbrev pub read_more_equations : TokenKind → Draft → Move
 read_more_equations (kinds.Mark marks.Comma) d = goes (symbols.Equation ∷ symbols.MoreEquations ∷ []) (equation_done d)
@@ -84,7 +84,7 @@ read_more_instances _ d = None
 abbrev pub read_conns : TokenKind → Draft → Move
 read_conns (kinds.Mark marks.RightParen) d = goes [] d
 read_conns (kinds.Mark marks.Dot) d = goes (symbols.PinName ∷ symbols.Mark marks.LeftParen ∷ symbols.PinValue ∷ symbols.MorePins ∷ []) d
-read_conns k d = behind (symbols.MoreTerms ∷ []) (read_expr k d)
+read_conns k d = with_behind (symbols.MoreTerms ∷ []) (read_expr k d)
 
 abbrev pub read_pin_name : TokenKind → Draft → Move
 read_pin_name (kinds.Name x) d = goes [] (record d { pin = Some x })
@@ -92,7 +92,7 @@ read_pin_name _ d = None
 
 abbrev pub read_pin_value : TokenKind → Draft → Move
 read_pin_value (kinds.Mark marks.RightParen) d = goes [] (open_pin_done d)
-read_pin_value k d = behind (symbols.PinEnd ∷ []) (read_expr k d)
+read_pin_value k d = with_behind (symbols.PinEnd ∷ []) (read_expr k d)
 
 abbrev pub read_pin_end : TokenKind → Draft → Move
 read_pin_end (kinds.Mark marks.RightParen) d = goes [] (pin_done d)

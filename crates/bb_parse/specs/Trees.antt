@@ -1,7 +1,7 @@
 -- Syntax trees: what a production of the grammar is made of.
 use Rattle.std.specs.Prelude.{ℕ, Bool, List, Option}
-use Rattle.bb_lex.specs.declared.token.Keyword.{Keyword}
-use Rattle.bb_net.specs.declared.net.Op.{Op}
+use Rattle.bb_base.specs.declared.keyword.Keyword.{Keyword}
+use Rattle.bb_base.specs.declared.operator.Op.{Op}
 
 -- the name of a variable, a cell, an instance or a pin
 abbrev pub Name : Type 0

@@ -1,8 +1,8 @@
 ghost use Rattle.std.specs.Prelude.{◌≡◌};
 ghost use Rattle.bb_parse.specs.Moves.{read_type, read_range, read_range_from, read_range_to, read_declared};
 ghost use Rattle.bb_parse.specs.StatementMoves.{read_more_decls};
-ghost use Rattle.bb_parse.specs.Machine.{moved};
-ghost use Rattle.bb_parse.specs.Standing.{Reads};
+ghost use Rattle.bb_parse.specs.Machine.{after_move};
+ghost use Rattle.bb_parse.specs.Standing.{MovesTo};
 
 use crate::ParseFault;
 use crate::reader::Reader;
@@ -12,7 +12,7 @@ use bb_lex::{Keyword, Mark, TokenKind};
 impl Reader {
     // What follows a direction.
     pub fn type_of(&mut self, place: Place, kind: TokenKind, line: u32) -> Result<(), ParseFault>
-        ensures { Reads result (moved (read_type place kind self.old.draft) self.old.pending line) self.new.pending self.new.draft }
+        ensures { MovesTo result (after_move (read_type place kind self.old.draft) self.old.pending line) self.new.pending self.new.draft }
     {
         match kind {
             TokenKind::Key(Keyword::Wire) => self.expect(&[Symbol::Range(place)]),
@@ -30,7 +30,7 @@ impl Reader {
 
     // A range or a name.
     pub fn range(&mut self, place: Place, kind: TokenKind, line: u32) -> Result<(), ParseFault>
-        ensures { Reads result (moved (read_range place kind self.old.draft) self.old.pending line) self.new.pending self.new.draft }
+        ensures { MovesTo result (after_move (read_range place kind self.old.draft) self.old.pending line) self.new.pending self.new.draft }
     {
         match kind {
             TokenKind::Mark(Mark::LeftBracket) => self.expect(&[
@@ -47,7 +47,7 @@ impl Reader {
 
     // The left number of a range.
     pub fn range_from(&mut self, kind: TokenKind, line: u32) -> Result<(), ParseFault>
-        ensures { Reads result (moved (read_range_from kind self.old.draft) self.old.pending line) self.new.pending self.new.draft }
+        ensures { MovesTo result (after_move (read_range_from kind self.old.draft) self.old.pending line) self.new.pending self.new.draft }
     {
         match kind {
             TokenKind::Number(from) => self.expect(&[
@@ -61,7 +61,7 @@ impl Reader {
 
     // The right number of a range.
     pub fn range_to(&mut self, from: u32, kind: TokenKind, line: u32) -> Result<(), ParseFault>
-        ensures { Reads result (moved (read_range_to from kind self.old.draft) self.old.pending line) self.new.pending self.new.draft }
+        ensures { MovesTo result (after_move (read_range_to from kind self.old.draft) self.old.pending line) self.new.pending self.new.draft }
     {
         match kind {
             TokenKind::Number(to) => {
@@ -74,7 +74,7 @@ impl Reader {
 
     // A declared name.
     pub fn declared(&mut self, place: Place, kind: TokenKind, line: u32) -> Result<(), ParseFault>
-        ensures { Reads result (moved (read_declared place kind self.old.draft) self.old.pending line) self.new.pending self.new.draft }
+        ensures { MovesTo result (after_move (read_declared place kind self.old.draft) self.old.pending line) self.new.pending self.new.draft }
     {
         match kind {
             TokenKind::Name(name) => {
@@ -87,7 +87,7 @@ impl Reader {
 
     // More declared names, or the end of the statement.
     pub fn more_decls(&mut self, kind: TokenKind, line: u32) -> Result<(), ParseFault>
-        ensures { Reads result (moved (read_more_decls kind self.old.draft) self.old.pending line) self.new.pending self.new.draft }
+        ensures { MovesTo result (after_move (read_more_decls kind self.old.draft) self.old.pending line) self.new.pending self.new.draft }
     {
         match kind {
             TokenKind::Mark(Mark::Comma) => self.expect(&[

@@ -4,7 +4,7 @@ ghost use Rattle.bb_parse.specs.Drafts.{no_draft, put, made_step, ref_done, begi
 
 use crate::symbol::{Made, Place, Side};
 use crate::{Conns, Decl, Expr, Header, Item, Module, ParseFault, Ref, Sequence, Step};
-use bb_net::{Name, Op, Role};
+use bb_base::{Name, Op, Role};
 use std::alloc::{AllocError, Global};
 use std::mem;
 

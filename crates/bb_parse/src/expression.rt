@@ -1,8 +1,8 @@
 ghost use Rattle.std.specs.Prelude.{◌≡◌, ◌∷◌};
 ghost use Rattle.bb_parse.specs.declared.symbol.Symbol.TheVariants.{Unary, Put, Ands, Xors};
 ghost use Rattle.bb_parse.specs.ExpressionMoves.{read_unary, read_expr, read_operators, read_braced, read_joined, read_repeat_end, read_ands, read_xors, read_ors, read_choice, read_select, read_select_from, read_select_to, read_select_last, read_select_end};
-ghost use Rattle.bb_parse.specs.Machine.{Going, moved};
-ghost use Rattle.bb_parse.specs.Standing.{Reads};
+ghost use Rattle.bb_parse.specs.Machine.{Going, after_move};
+ghost use Rattle.bb_parse.specs.Standing.{MovesTo};
 
 use crate::reader::Reader;
 use crate::symbol::{Made, Side, Symbol};
@@ -12,7 +12,7 @@ use bb_lex::{Mark, TokenKind};
 impl Reader {
     // An operand with its prefixes.
     pub fn unary(&mut self, kind: TokenKind, line: u32) -> Result<(), ParseFault>
-        ensures { Reads result (moved (read_unary kind self.old.draft) self.old.pending line) self.new.pending self.new.draft }
+        ensures { MovesTo result (after_move (read_unary kind self.old.draft) self.old.pending line) self.new.pending self.new.draft }
     {
         match kind {
             TokenKind::Mark(Mark::Tilde) => self.expect(&[Symbol::Unary, Symbol::Put(Made::Not)]),
@@ -35,7 +35,7 @@ impl Reader {
 
     // An expression: an operand, and what may follow it.
     pub fn expr(&mut self, kind: TokenKind, line: u32) -> Result<(), ParseFault>
-        ensures { Reads result (moved (read_expr kind self.old.draft) self.old.pending line) self.new.pending self.new.draft }
+        ensures { MovesTo result (after_move (read_expr kind self.old.draft) self.old.pending line) self.new.pending self.new.draft }
     {
         self.expect(&[Symbol::Operators])?;
         self.unary(kind, line)
@@ -43,7 +43,7 @@ impl Reader {
 
     // The first operator behind an operand, as if the symbols of all stood here.
     pub fn operators(&mut self, kind: TokenKind, line: u32) -> Result<(), ParseFault>
-        ensures { Reads result (moved (read_operators kind self.old.draft) self.old.pending line) self.new.pending self.new.draft }
+        ensures { MovesTo result (after_move (read_operators kind self.old.draft) self.old.pending line) self.new.pending self.new.draft }
     {
         match &kind {
             TokenKind::Mark(Mark::Amp) => {
@@ -64,7 +64,7 @@ impl Reader {
 
     // What follows the `{` of an operand: a repeat, or expressions.
     pub fn braced(&mut self, kind: TokenKind, line: u32) -> Result<(), ParseFault>
-        ensures { Reads result (moved (read_braced kind self.old.draft) self.old.pending line) self.new.pending self.new.draft }
+        ensures { MovesTo result (after_move (read_braced kind self.old.draft) self.old.pending line) self.new.pending self.new.draft }
     {
         match kind {
             TokenKind::Number(0) => Err(ParseFault::Unreadable { line }),
@@ -83,7 +83,7 @@ impl Reader {
 
     // More expressions behind so many in braces, or their end. More than a `u64` counts fit into no memory.
     pub fn joined(&mut self, count: u64, kind: TokenKind, line: u32) -> Result<(), ParseFault>
-        ensures { Reads result (moved (read_joined count kind self.old.draft) self.old.pending line) self.new.pending self.new.draft }
+        ensures { MovesTo result (after_move (read_joined count kind self.old.draft) self.old.pending line) self.new.pending self.new.draft }
     {
         match kind {
             TokenKind::Mark(Mark::Comma) => match count.checked_add(1) {
@@ -100,7 +100,7 @@ impl Reader {
 
     // The end of a repeat.
     pub fn repeat_end(&mut self, times: u32, kind: TokenKind, line: u32) -> Result<(), ParseFault>
-        ensures { Reads result (moved (read_repeat_end times kind self.old.draft) self.old.pending line) self.new.pending self.new.draft }
+        ensures { MovesTo result (after_move (read_repeat_end times kind self.old.draft) self.old.pending line) self.new.pending self.new.draft }
     {
         match kind {
             TokenKind::Mark(Mark::RightBrace) => {
@@ -113,7 +113,7 @@ impl Reader {
 
     // One more operand of `&`.
     pub fn ands(&mut self, kind: TokenKind, line: u32) -> Result<(), ParseFault>
-        ensures { Reads result (moved (read_ands kind self.old.draft) self.old.pending line) self.new.pending self.new.draft }
+        ensures { MovesTo result (after_move (read_ands kind self.old.draft) self.old.pending line) self.new.pending self.new.draft }
     {
         match kind {
             TokenKind::Mark(Mark::Amp) => self.expect(&[
@@ -127,7 +127,7 @@ impl Reader {
 
     // One more operand of `^`, `~^` or `^~`.
     pub fn xors(&mut self, kind: TokenKind, line: u32) -> Result<(), ParseFault>
-        ensures { Reads result (moved (read_xors kind self.old.draft) self.old.pending line) self.new.pending self.new.draft }
+        ensures { MovesTo result (after_move (read_xors kind self.old.draft) self.old.pending line) self.new.pending self.new.draft }
     {
         match kind {
             TokenKind::Mark(Mark::Caret) => self.xor_operand(Made::Xor),
@@ -138,7 +138,7 @@ impl Reader {
 
     // An operand of this operator, and behind it the operator and further ones.
     fn xor_operand(&mut self, made: Made) -> Result<(), ParseFault>
-        ensures { Reads result (Going (Unary ∷ Ands ∷ Put made ∷ Xors ∷ self.old.pending) self.old.draft) self.new.pending self.new.draft }
+        ensures { MovesTo result (Going (Unary ∷ Ands ∷ Put made ∷ Xors ∷ self.old.pending) self.old.draft) self.new.pending self.new.draft }
     {
         self.expect(&[Symbol::Put(made), Symbol::Xors])?;
         self.expect(&[Symbol::Unary, Symbol::Ands])
@@ -146,7 +146,7 @@ impl Reader {
 
     // One more operand of `|`.
     pub fn ors(&mut self, kind: TokenKind, line: u32) -> Result<(), ParseFault>
-        ensures { Reads result (moved (read_ors kind self.old.draft) self.old.pending line) self.new.pending self.new.draft }
+        ensures { MovesTo result (after_move (read_ors kind self.old.draft) self.old.pending line) self.new.pending self.new.draft }
     {
         match kind {
             TokenKind::Mark(Mark::Bar) => self.expect(&[
@@ -162,7 +162,7 @@ impl Reader {
 
     // The two values of a condition.
     pub fn choice(&mut self, kind: TokenKind, line: u32) -> Result<(), ParseFault>
-        ensures { Reads result (moved (read_choice kind self.old.draft) self.old.pending line) self.new.pending self.new.draft }
+        ensures { MovesTo result (after_move (read_choice kind self.old.draft) self.old.pending line) self.new.pending self.new.draft }
     {
         match kind {
             TokenKind::Mark(Mark::Question) => {
@@ -175,7 +175,7 @@ impl Reader {
 
     // What follows a name.
     pub fn select(&mut self, side: Side, kind: TokenKind, line: u32) -> Result<(), ParseFault>
-        ensures { Reads result (moved (read_select side kind self.old.draft) self.old.pending line) self.new.pending self.new.draft }
+        ensures { MovesTo result (after_move (read_select side kind self.old.draft) self.old.pending line) self.new.pending self.new.draft }
     {
         match kind {
             TokenKind::Mark(Mark::LeftBracket) => self.expect(&[Symbol::SelectFrom(side)]),
@@ -185,7 +185,7 @@ impl Reader {
 
     // An index, or the first one of a select.
     pub fn select_from(&mut self, side: Side, kind: TokenKind, line: u32) -> Result<(), ParseFault>
-        ensures { Reads result (moved (read_select_from side kind self.old.draft) self.old.pending line) self.new.pending self.new.draft }
+        ensures { MovesTo result (after_move (read_select_from side kind self.old.draft) self.old.pending line) self.new.pending self.new.draft }
     {
         match kind {
             TokenKind::Number(from) => self.expect(&[Symbol::SelectTo(side, from)]),
@@ -201,7 +201,7 @@ impl Reader {
         kind: TokenKind,
         line: u32,
     ) -> Result<(), ParseFault>
-        ensures { Reads result (moved (read_select_to side from kind self.old.draft) self.old.pending line) self.new.pending self.new.draft }
+        ensures { MovesTo result (after_move (read_select_to side from kind self.old.draft) self.old.pending line) self.new.pending self.new.draft }
     {
         match kind {
             TokenKind::Mark(Mark::RightBracket) => {
@@ -221,7 +221,7 @@ impl Reader {
         kind: TokenKind,
         line: u32,
     ) -> Result<(), ParseFault>
-        ensures { Reads result (moved (read_select_last side from kind self.old.draft) self.old.pending line) self.new.pending self.new.draft }
+        ensures { MovesTo result (after_move (read_select_last side from kind self.old.draft) self.old.pending line) self.new.pending self.new.draft }
     {
         match kind {
             TokenKind::Number(to) => self.expect(&[Symbol::SelectEnd(side, from, to)]),
@@ -238,7 +238,7 @@ impl Reader {
         kind: TokenKind,
         line: u32,
     ) -> Result<(), ParseFault>
-        ensures { Reads result (moved (read_select_end side from to kind self.old.draft) self.old.pending line) self.new.pending self.new.draft }
+        ensures { MovesTo result (after_move (read_select_end side from to kind self.old.draft) self.old.pending line) self.new.pending self.new.draft }
     {
         match kind {
             TokenKind::Mark(Mark::RightBracket) => {

@@ -1,19 +1,19 @@
 ghost use Rattle.std.specs.Prelude.{◌≡◌};
 ghost use Rattle.bb_parse.specs.Moves.{read_file, read_module_name, read_header, read_ports, read_plain_name, read_more_names, read_port, read_more_ports};
-ghost use Rattle.bb_parse.specs.Machine.{moved};
-ghost use Rattle.bb_parse.specs.Standing.{Reads};
+ghost use Rattle.bb_parse.specs.Machine.{after_move};
+ghost use Rattle.bb_parse.specs.Standing.{MovesTo};
 ghost use Rattle.bb_parse.specs.Drafts.{begin_decl};
 
 use crate::ParseFault;
 use crate::reader::Reader;
 use crate::symbol::{Place, Symbol};
+use bb_base::Role;
 use bb_lex::{Keyword, Mark, TokenKind};
-use bb_net::Role;
 
 impl Reader {
     // `module`.
     pub fn file(&mut self, kind: TokenKind, line: u32) -> Result<(), ParseFault>
-        ensures { Reads result (moved (read_file kind line self.old.draft) self.old.pending line) self.new.pending self.new.draft }
+        ensures { MovesTo result (after_move (read_file kind line self.old.draft) self.old.pending line) self.new.pending self.new.draft }
     {
         match kind {
             TokenKind::Key(Keyword::Module) => {
@@ -26,7 +26,7 @@ impl Reader {
 
     // The module's name.
     pub fn module_name(&mut self, kind: TokenKind, line: u32) -> Result<(), ParseFault>
-        ensures { Reads result (moved (read_module_name kind self.old.draft) self.old.pending line) self.new.pending self.new.draft }
+        ensures { MovesTo result (after_move (read_module_name kind self.old.draft) self.old.pending line) self.new.pending self.new.draft }
     {
         match kind {
             TokenKind::Name(name) => {
@@ -39,7 +39,7 @@ impl Reader {
 
     // What follows the name of a module.
     pub fn header(&mut self, kind: TokenKind, line: u32) -> Result<(), ParseFault>
-        ensures { Reads result (moved (read_header kind self.old.draft) self.old.pending line) self.new.pending self.new.draft }
+        ensures { MovesTo result (after_move (read_header kind self.old.draft) self.old.pending line) self.new.pending self.new.draft }
     {
         match kind {
             TokenKind::Mark(Mark::Semicolon) => Ok(()),
@@ -53,7 +53,7 @@ impl Reader {
 
     // What follows the `(` of a header.
     pub fn ports(&mut self, kind: TokenKind, line: u32) -> Result<(), ParseFault>
-        ensures { Reads result (moved (read_ports kind self.old.draft) self.old.pending line) self.new.pending self.new.draft }
+        ensures { MovesTo result (after_move (read_ports kind self.old.draft) self.old.pending line) self.new.pending self.new.draft }
     {
         match kind {
             TokenKind::Mark(Mark::RightParen) => Ok(()),
@@ -84,7 +84,7 @@ impl Reader {
 
     // The name of a port without a direction.
     pub fn plain_name(&mut self, kind: TokenKind, line: u32) -> Result<(), ParseFault>
-        ensures { Reads result (moved (read_plain_name kind self.old.draft) self.old.pending line) self.new.pending self.new.draft }
+        ensures { MovesTo result (after_move (read_plain_name kind self.old.draft) self.old.pending line) self.new.pending self.new.draft }
     {
         match kind {
             TokenKind::Name(name) => {
@@ -97,7 +97,7 @@ impl Reader {
 
     // More names of ports, or the end of the header.
     pub fn more_names(&mut self, kind: TokenKind, line: u32) -> Result<(), ParseFault>
-        ensures { Reads result (moved (read_more_names kind self.old.draft) self.old.pending line) self.new.pending self.new.draft }
+        ensures { MovesTo result (after_move (read_more_names kind self.old.draft) self.old.pending line) self.new.pending self.new.draft }
     {
         match kind {
             TokenKind::Mark(Mark::Comma) => self.expect(&[Symbol::PlainName, Symbol::MoreNames]),
@@ -108,7 +108,7 @@ impl Reader {
 
     // A port of a header with directions.
     pub fn port(&mut self, kind: TokenKind, line: u32) -> Result<(), ParseFault>
-        ensures { Reads result (moved (read_port kind self.old.draft) self.old.pending line) self.new.pending self.new.draft }
+        ensures { MovesTo result (after_move (read_port kind self.old.draft) self.old.pending line) self.new.pending self.new.draft }
     {
         match kind {
             TokenKind::Name(name) => {
@@ -129,7 +129,7 @@ impl Reader {
 
     // More ports, or the end of the header.
     pub fn more_ports(&mut self, kind: TokenKind, line: u32) -> Result<(), ParseFault>
-        ensures { Reads result (moved (read_more_ports kind self.old.draft) self.old.pending line) self.new.pending self.new.draft }
+        ensures { MovesTo result (after_move (read_more_ports kind self.old.draft) self.old.pending line) self.new.pending self.new.draft }
     {
         match kind {
             TokenKind::Mark(Mark::Comma) => self.expect(&[Symbol::Port, Symbol::MorePorts]),

@@ -1,6 +1,7 @@
-ghost use Rattle.std.specs.Prelude.{◌≡◌};
-ghost use Rattle.bb_parse.specs.Machine.{step, start, end};
-ghost use Rattle.bb_parse.specs.Standing.{told, Stands};
+ghost use Rattle.std.specs.Prelude.{◌≡◌, Err};
+ghost use Rattle.bb_parse.specs.declared.fault.ParseFault.{ParseFault as FaultValue};
+ghost use Rattle.bb_parse.specs.Machine.{Failed, step, start, end};
+ghost use Rattle.bb_parse.specs.Standing.{answer_of, Follows};
 
 use crate::draft::Draft;
 use crate::reader::Reader;
@@ -20,11 +21,11 @@ pub struct Parser {
 
 impl Model for Parser {
     ghost use Rattle.bb_parse.specs.Machine.{Parsing};
-    ghost use Rattle.bb_parse.specs.Standing.{seen};
+    ghost use Rattle.bb_parse.specs.Standing.{state_of};
 
     ghost Value = { Parsing };
 
-    ghost view = { λ p. seen p.fault p.reader.pending p.reader.draft };
+    ghost view = { λ p. state_of p.fault p.reader.pending p.reader.draft };
 }
 
 impl Parser {
@@ -44,10 +45,12 @@ impl Parser {
 
     /// Takes the next token.
     ///
-    /// After a fault each later call answers that fault again.
+    /// After a fault or want of memory each later call gives the same answer and changes nothing.
     pub fn token(&mut self, token: Token) -> Result<(), ParseFault>
-        ensures stands { Stands result (step self.old token) self.new }
-        ensures told { result ≡ told self.new }
+        ensures stands { Follows result (step self.old token) self.new }
+        ensures told { result ≡ answer_of self.new }
+        ensures again { (fault : FaultValue) → self.old ≡ Failed fault → result ≡ Err fault }
+        ensures unchanged { (fault : FaultValue) → self.old ≡ Failed fault → self.new ≡ self.old }
     {
         if let Some(fault) = self.fault {
             return Err(fault);
@@ -66,12 +69,10 @@ impl Parser {
         ensures { result ≡ end self line }
     {
         let Parser { mut reader, fault } = self;
-        if let Some(fault) = fault {
-            return Err(fault);
+        match fault {
+            Some(fault) => Err(fault),
+            None if reader.pending.pop().is_some() => Err(ParseFault::Unreadable { line }),
+            None => reader.draft.whole(line),
         }
-        if reader.pending.pop().is_some() {
-            return Err(ParseFault::Unreadable { line });
-        }
-        reader.draft.whole(line)
     }
 }

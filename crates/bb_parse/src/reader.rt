@@ -3,8 +3,8 @@
 ghost use Rattle.std.specs.Prelude.{◌≡◌, ℕ, ◌∷◌, ◌++◌, [], OnOk, IfErr, Some, None, Ok};
 ghost use Rattle.bb_parse.specs.Passes.{passed};
 ghost use Rattle.bb_parse.specs.ExpressionMoves.{read_mark};
-ghost use Rattle.bb_parse.specs.Machine.{moved, read, feed};
-ghost use Rattle.bb_parse.specs.Standing.{Reads, Finds};
+ghost use Rattle.bb_parse.specs.Machine.{after_move, read_by, passed_on};
+ghost use Rattle.bb_parse.specs.Standing.{MovesTo, Finds};
 ghost use Rattle.bb_parse.specs.Drafts.{no_draft};
 ghost use Rattle.bb_parse.specs.declared.fault.ParseFault.TheVariants.{NoMemory};
 ghost use Rattle.bb_parse.specs.declared.symbol.Symbol.TheVariants.{File};
@@ -37,7 +37,7 @@ impl Reader {
 
     // A mark that must stand here.
     fn mark(&mut self, mark: Mark, kind: TokenKind, line: u32) -> Result<(), ParseFault>
-        ensures { Reads result (moved (read_mark mark kind self.old.draft) self.old.pending line) self.new.pending self.new.draft }
+        ensures { MovesTo result (after_move (read_mark mark kind self.old.draft) self.old.pending line) self.new.pending self.new.draft }
     {
         match kind {
             TokenKind::Mark(found) if found == mark => Ok(()),
@@ -79,7 +79,7 @@ impl Reader {
 
     // The symbol takes the token.
     fn read(&mut self, symbol: Symbol, kind: TokenKind, line: u32) -> Result<(), ParseFault>
-        ensures { Reads result (moved (read symbol kind line self.old.draft) self.old.pending line) self.new.pending self.new.draft }
+        ensures { MovesTo result (after_move (read_by symbol kind line self.old.draft) self.old.pending line) self.new.pending self.new.draft }
     {
         match symbol {
             Symbol::File => self.file(kind, line),
@@ -134,7 +134,7 @@ impl Reader {
 
     // One token.
     pub fn token(&mut self, kind: TokenKind, line: u32) -> Result<(), ParseFault>
-        ensures { Reads result (feed self.old.pending self.old.draft kind line) self.new.pending self.new.draft }
+        ensures { MovesTo result (passed_on self.old.pending self.old.draft kind line) self.new.pending self.new.draft }
     {
         match self.next(&kind)? {
             Some(symbol) => self.read(symbol, kind, line),

@@ -1,8 +1,7 @@
-ghost use Rattle.std.specs.Prelude.{◌≡◌};
+ghost use Rattle.std.specs.Prelude.{◌≡◌, ◌∷◌};
 ghost use Rattle.bb_parse.specs.StatementMoves.{begin_gates, read_keyword, read_items, read_left, read_more_lefts, read_equation, read_more_equations, read_gate, read_more_terms, read_more_gates, read_instance, read_conns, read_more_instances, read_pin_name, read_pin_value, read_pin_end, read_more_pins};
-ghost use Rattle.bb_parse.specs.Machine.{moved, Going};
-ghost use Rattle.bb_parse.specs.Standing.{Reads};
-ghost use Rattle.std.specs.Prelude.{◌∷◌};
+ghost use Rattle.bb_parse.specs.Machine.{after_move, Going};
+ghost use Rattle.bb_parse.specs.Standing.{MovesTo};
 ghost use Rattle.bb_parse.specs.Grammar.{gate_op};
 ghost use Rattle.bb_parse.specs.Drafts.{begin_decl};
 ghost use Rattle.bb_parse.specs.declared.symbol.Symbol.TheVariants.{MoreDecls, Items};
@@ -10,8 +9,8 @@ ghost use Rattle.bb_parse.specs.declared.symbol.Symbol.TheVariants.{MoreDecls, I
 use crate::ParseFault;
 use crate::reader::Reader;
 use crate::symbol::{Place, Side, Symbol};
+use bb_base::{Op, Role};
 use bb_lex::{Keyword, Mark, TokenKind};
-use bb_net::{Op, Role};
 
 // The operator of a gate's keyword.
 fn gate_op(keyword: Keyword) -> Option<Op>
@@ -33,7 +32,7 @@ fn gate_op(keyword: Keyword) -> Option<Op>
 impl Reader {
     // The keyword that begins a statement, or ends the module.
     fn keyword(&mut self, keyword: Keyword, line: u32) -> Result<(), ParseFault>
-        ensures { Reads result (moved (read_keyword keyword line self.old.draft) self.old.pending line) self.new.pending self.new.draft }
+        ensures { MovesTo result (after_move (read_keyword keyword line self.old.draft) self.old.pending line) self.new.pending self.new.draft }
     {
         match keyword {
             Keyword::Endmodule => Ok(()),
@@ -50,7 +49,7 @@ impl Reader {
 
     // Names of a role begin.
     fn decls(&mut self, line: u32, role: Role, first: Symbol) -> Result<(), ParseFault>
-        ensures { Reads result (Going (first ∷ MoreDecls ∷ Items ∷ self.old.pending) (begin_decl line role self.old.draft)) self.new.pending self.new.draft }
+        ensures { MovesTo result (Going (first ∷ MoreDecls ∷ Items ∷ self.old.pending) (begin_decl line role self.old.draft)) self.new.pending self.new.draft }
     {
         self.draft.begin_decl(line, role);
         self.expect(&[first, Symbol::MoreDecls, Symbol::Items])
@@ -58,7 +57,7 @@ impl Reader {
 
     // Gates of an operator begin, where the keyword has one.
     fn gates(&mut self, op: Option<Op>, line: u32) -> Result<(), ParseFault>
-        ensures { Reads result (moved (begin_gates op line self.old.draft) self.old.pending line) self.new.pending self.new.draft }
+        ensures { MovesTo result (after_move (begin_gates op line self.old.draft) self.old.pending line) self.new.pending self.new.draft }
     {
         let Some(op) = op else {
             return Err(ParseFault::Unreadable { line });
@@ -70,7 +69,7 @@ impl Reader {
 
     // A statement, or the end of the module.
     pub fn items(&mut self, kind: TokenKind, line: u32) -> Result<(), ParseFault>
-        ensures { Reads result (moved (read_items kind line self.old.draft) self.old.pending line) self.new.pending self.new.draft }
+        ensures { MovesTo result (after_move (read_items kind line self.old.draft) self.old.pending line) self.new.pending self.new.draft }
     {
         match kind {
             TokenKind::Key(keyword) => self.keyword(keyword, line),
@@ -85,7 +84,7 @@ impl Reader {
 
     // The left side of an equation.
     pub fn left(&mut self, kind: TokenKind, line: u32) -> Result<(), ParseFault>
-        ensures { Reads result (moved (read_left kind self.old.draft) self.old.pending line) self.new.pending self.new.draft }
+        ensures { MovesTo result (after_move (read_left kind self.old.draft) self.old.pending line) self.new.pending self.new.draft }
     {
         match kind {
             TokenKind::Name(name) => {
@@ -99,7 +98,7 @@ impl Reader {
 
     // More targets in braces.
     pub fn more_lefts(&mut self, kind: TokenKind, line: u32) -> Result<(), ParseFault>
-        ensures { Reads result (moved (read_more_lefts kind self.old.draft) self.old.pending line) self.new.pending self.new.draft }
+        ensures { MovesTo result (after_move (read_more_lefts kind self.old.draft) self.old.pending line) self.new.pending self.new.draft }
     {
         match kind {
             TokenKind::Mark(Mark::Comma) => self.expect(&[Symbol::Left, Symbol::MoreLefts]),
@@ -110,7 +109,7 @@ impl Reader {
 
     // An equation.
     pub fn equation(&mut self, kind: TokenKind, line: u32) -> Result<(), ParseFault>
-        ensures { Reads result (moved (read_equation kind self.old.draft) self.old.pending line) self.new.pending self.new.draft }
+        ensures { MovesTo result (after_move (read_equation kind self.old.draft) self.old.pending line) self.new.pending self.new.draft }
     {
         self.expect(&[Symbol::Mark(Mark::Equals), Symbol::Expr])?;
         self.left(kind, line)
@@ -118,7 +117,7 @@ impl Reader {
 
     // More equations, or the end of the statement.
     pub fn more_equations(&mut self, kind: TokenKind, line: u32) -> Result<(), ParseFault>
-        ensures { Reads result (moved (read_more_equations kind self.old.draft) self.old.pending line) self.new.pending self.new.draft }
+        ensures { MovesTo result (after_move (read_more_equations kind self.old.draft) self.old.pending line) self.new.pending self.new.draft }
     {
         match kind {
             TokenKind::Mark(Mark::Comma) => {
@@ -135,7 +134,7 @@ impl Reader {
 
     // A gate, whose name may be left out.
     pub fn gate(&mut self, kind: TokenKind, line: u32) -> Result<(), ParseFault>
-        ensures { Reads result (moved (read_gate kind self.old.draft) self.old.pending line) self.new.pending self.new.draft }
+        ensures { MovesTo result (after_move (read_gate kind self.old.draft) self.old.pending line) self.new.pending self.new.draft }
     {
         match kind {
             TokenKind::Name(_) => self.expect(&[
@@ -150,7 +149,7 @@ impl Reader {
 
     // More terminals, or their end.
     pub fn more_terms(&mut self, kind: TokenKind, line: u32) -> Result<(), ParseFault>
-        ensures { Reads result (moved (read_more_terms kind self.old.draft) self.old.pending line) self.new.pending self.new.draft }
+        ensures { MovesTo result (after_move (read_more_terms kind self.old.draft) self.old.pending line) self.new.pending self.new.draft }
     {
         match kind {
             TokenKind::Mark(Mark::Comma) => {
@@ -167,7 +166,7 @@ impl Reader {
 
     // More gates, or the end of the statement.
     pub fn more_gates(&mut self, kind: TokenKind, line: u32) -> Result<(), ParseFault>
-        ensures { Reads result (moved (read_more_gates kind self.old.draft) self.old.pending line) self.new.pending self.new.draft }
+        ensures { MovesTo result (after_move (read_more_gates kind self.old.draft) self.old.pending line) self.new.pending self.new.draft }
     {
         match kind {
             TokenKind::Mark(Mark::Comma) => {
@@ -184,7 +183,7 @@ impl Reader {
 
     // An instance of a cell, whose name must stand.
     pub fn instance(&mut self, kind: TokenKind, line: u32) -> Result<(), ParseFault>
-        ensures { Reads result (moved (read_instance kind self.old.draft) self.old.pending line) self.new.pending self.new.draft }
+        ensures { MovesTo result (after_move (read_instance kind self.old.draft) self.old.pending line) self.new.pending self.new.draft }
     {
         match kind {
             TokenKind::Name(_) => self.expect(&[Symbol::Mark(Mark::LeftParen), Symbol::Conns]),
@@ -194,7 +193,7 @@ impl Reader {
 
     // What follows the `(` of an instance: pins, or terminals.
     pub fn conns(&mut self, kind: TokenKind, line: u32) -> Result<(), ParseFault>
-        ensures { Reads result (moved (read_conns kind self.old.draft) self.old.pending line) self.new.pending self.new.draft }
+        ensures { MovesTo result (after_move (read_conns kind self.old.draft) self.old.pending line) self.new.pending self.new.draft }
     {
         match kind {
             TokenKind::Mark(Mark::RightParen) => Ok(()),
@@ -213,7 +212,7 @@ impl Reader {
 
     // More instances, or the end of the statement.
     pub fn more_instances(&mut self, kind: TokenKind, line: u32) -> Result<(), ParseFault>
-        ensures { Reads result (moved (read_more_instances kind self.old.draft) self.old.pending line) self.new.pending self.new.draft }
+        ensures { MovesTo result (after_move (read_more_instances kind self.old.draft) self.old.pending line) self.new.pending self.new.draft }
     {
         match kind {
             TokenKind::Mark(Mark::Comma) => {
@@ -230,7 +229,7 @@ impl Reader {
 
     // The name of a pin.
     pub fn pin_name(&mut self, kind: TokenKind, line: u32) -> Result<(), ParseFault>
-        ensures { Reads result (moved (read_pin_name kind self.old.draft) self.old.pending line) self.new.pending self.new.draft }
+        ensures { MovesTo result (after_move (read_pin_name kind self.old.draft) self.old.pending line) self.new.pending self.new.draft }
     {
         match kind {
             TokenKind::Name(name) => {
@@ -243,7 +242,7 @@ impl Reader {
 
     // The value of a pin, or none.
     pub fn pin_value(&mut self, kind: TokenKind, line: u32) -> Result<(), ParseFault>
-        ensures { Reads result (moved (read_pin_value kind self.old.draft) self.old.pending line) self.new.pending self.new.draft }
+        ensures { MovesTo result (after_move (read_pin_value kind self.old.draft) self.old.pending line) self.new.pending self.new.draft }
     {
         match kind {
             TokenKind::Mark(Mark::RightParen) => {
@@ -259,7 +258,7 @@ impl Reader {
 
     // The end of a pin with a value.
     pub fn pin_end(&mut self, kind: TokenKind, line: u32) -> Result<(), ParseFault>
-        ensures { Reads result (moved (read_pin_end kind self.old.draft) self.old.pending line) self.new.pending self.new.draft }
+        ensures { MovesTo result (after_move (read_pin_end kind self.old.draft) self.old.pending line) self.new.pending self.new.draft }
     {
         match kind {
             TokenKind::Mark(Mark::RightParen) => {
@@ -272,7 +271,7 @@ impl Reader {
 
     // More pins, or their end.
     pub fn more_pins(&mut self, kind: TokenKind, line: u32) -> Result<(), ParseFault>
-        ensures { Reads result (moved (read_more_pins kind self.old.draft) self.old.pending line) self.new.pending self.new.draft }
+        ensures { MovesTo result (after_move (read_more_pins kind self.old.draft) self.old.pending line) self.new.pending self.new.draft }
     {
         match kind {
             TokenKind::Mark(Mark::Comma) => self.expect(&[

@@ -1,5 +1,5 @@
 use crate::Sequence;
-use bb_net::{Name, Op, Role};
+use bb_base::{Name, Op, Role};
 
 /// A variable, or some bits of it: an index stands as a select from itself to itself.
 #[derive(Drop)]

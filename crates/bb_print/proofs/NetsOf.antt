@@ -2,10 +2,10 @@
 use Rattle.std.proofs.Common.{◌<◌, ℕ, List, ◌++◌, length, map}
 use Rattle.std.specs.List.{AllByRecursion, flat_map}
 use Rattle.std.proofs.lemmas.List.Elements.{recursion_from_All}
-use Rattle.bb_net.specs.Net.{Gate, Flop, driven, reads}
+use Rattle.bb_netlist.specs.Net.{Gate, Flop, driven, reads}
 use Rattle.bb_net.specs.Named.{Named, IsNamed}
-use Rattle.bb_net.proofs.Lists.{all_front, all_back, all_map}
-use Rattle.bb_print.proofs.Nets.{all_flat}
+use Rattle.bb_base.proofs.Lists.{all_front, all_back, all_map}
+use Rattle.bb_spell.proofs.Nets.{all_flat}
 
 module _ (a : Named) (h : IsNamed a) where
   abbrev IsNet : ℕ → Type 0

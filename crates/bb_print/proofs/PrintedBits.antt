@@ -7,16 +7,18 @@ use Rattle.std.specs.Str.{bytes_eq}
 use Rattle.std.proofs.lemmas.Bool.Decides.{nat_tests}
 use Rattle.std.proofs.lemmas.Option.{same_Some}
 use Rattle.std.proofs.lemmas.List.Elements.{recursion_from_All}
-use Rattle.bb_net.specs.declared.variable.BitName.{BitName}
-use Rattle.bb_net.specs.Bits.{Entry, IsBit, bit_of, bit_in, range_width, index_at}
-use Rattle.bb_elab.specs.Firsts.{on_some}
-use Rattle.bb_elab.specs.References.{distance, is_inside, selected, ref_span}
-use Rattle.bb_elab.specs.Variables.{bit_count}
-use Rattle.bb_elab.specs.Making.{first_bit, bits_at, ref_bits}
-use Rattle.bb_elab.specs.Nets.{bit_name}
-use Rattle.bb_elab.proofs.Keys.{same_name, name_itself}
-use Rattle.bb_print.specs.Printed.{reference}
+use Rattle.bb_base.specs.declared.variable.BitName.{BitName}
+use Rattle.bb_base.specs.Variables.{Entry, IsBit, bit_of, bit_in, range_width, index_at, bit_count}
+use Rattle.bb_fault.specs.Firsts.{on_some}
+use Rattle.bb_scope.specs.References.{distance, selected, ref_span}
+use Rattle.bb_scope.specs.References.{first_number}
+use Rattle.bb_scope.specs.References.{ref_bits}
+use Rattle.bb_drive.specs.Nets.{bit_name}
+use Rattle.bb_fault.proofs.Keys.{same_name, name_itself}
+use Rattle.bb_canon_parse.specs.Printed.{reference}
 use Rattle.bb_print.proofs.Sieves.{item_at}
+use Rattle.bb_scope.specs.References.{is_in_range}
+use Rattle.bb_scope.specs.References.{span_bits}
 
 -- the number of the bit of this place of this variable
 abbrev pub bit_number : List Entry → ℕ → ℕ → ℕ
@@ -47,7 +49,7 @@ differ_from (v ∷ vs) h = (
 )
 
 -- a bit's number is counted from its variable's first bit
-pub first_is : (vs : List Entry) (i place : ℕ) (v : Entry) → Differ vs → slice_get vs i ≡ Some v → first_bit vs v.0 + place ≡ bit_number vs i place
+pub first_is : (vs : List Entry) (i place : ℕ) (v : Entry) → Differ vs → slice_get vs i ≡ Some v → first_number vs v.0 + place ≡ bit_number vs i place
 first_is [] i place v h at = cc
 first_is (w ∷ ws) zero place v h at =
     let same : w ≡ v = same_Some w v at in
@@ -116,10 +118,10 @@ found_is (w ∷ ws) (suc i) v h at =
     rw test (found_is ws i v h.1 at)
 
 -- an index names its place
-place_inside : (r : ℕ × ℕ) (place : ℕ) → place < range_width (Some r) → (is_inside r (index_at r place) ≡ true) × (distance r.0 (index_at r place) ≡ place)
+place_inside : (r : ℕ × ℕ) (place : ℕ) → place < range_width (Some r) → (is_in_range r (index_at r place) ≡ true) × (distance r.0 (index_at r place) ≡ place)
 place_inside r place h = go (nat_le r.0 r.1) refl
   where
-    go : (b : Bool) → nat_le r.0 r.1 ≡ b → (is_inside r (if b then r.0 + place else r.0 - place) ≡ true) × (distance r.0 (if b then r.0 + place else r.0 - place) ≡ place)
+    go : (b : Bool) → nat_le r.0 r.1 ≡ b → (is_in_range r (if b then r.0 + place else r.0 - place) ≡ true) × (distance r.0 (if b then r.0 + place else r.0 - place) ≡ place)
     go true t =
         let up : r.0 ≤ r.1 = grind (arith, nat_tests) in
         let small : place ≤ r.1 - r.0 = omega (arith, h, up) in
@@ -150,7 +152,7 @@ selected_is None place h =
 selected_is (Some r) place h =
     let i : ℕ = index_at r place in
     let facts = place_inside r place h in
-    let inside : is_inside r (index_at r place) ≡ true = facts.0 in
+    let inside : is_in_range r (index_at r place) ≡ true = facts.0 in
     let near : nat_le (distance r.0 (index_at r place)) (distance r.0 (index_at r place)) ≡ true = le_itself (distance r.0 i) in
     rw (inside, near) (λ j. Some (record { first = facts.1 j; width = itself_wide i j }))
 
@@ -164,6 +166,6 @@ span_is vs bit differ h =
 pub bits_are : (vs : List Entry) (bit : BitName) → Differ vs → IsBit vs bit → ref_bits vs (reference (bit_of vs bit)) ≡ number_of vs bit ∷ []
 bits_are vs bit differ h =
     let name : (reference (bit_of vs bit)).name ≡ h.entry.0 = ap (λ (o : Option Entry). (bit_in o bit.place).name) h.stands in
-    ap (λ n. bits_at (first_bit vs n) (ref_span vs (reference (bit_of vs bit)))) name
-    ∙ ap (bits_at (first_bit vs h.entry.0)) (span_is vs bit differ h)
+    ap (λ n. span_bits (first_number vs n) (ref_span vs (reference (bit_of vs bit)))) name
+    ∙ ap (span_bits (first_number vs h.entry.0)) (span_is vs bit differ h)
     ∙ ap (λ n. n ∷ []) (first_is vs bit.variable bit.place h.entry differ h.stands)

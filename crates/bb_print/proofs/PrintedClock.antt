@@ -4,25 +4,27 @@ use Rattle.std.specs.Prelude.{filter, find, flat_map}
 use Rattle.std.specs.List.{AllByRecursion, range_with_len}
 use Rattle.std.specs.Option.{option_map, option_or}
 use Rattle.std.proofs.lemmas.Option.{same_Some}
-use Rattle.bb_net.specs.declared.variable.BitName.{BitName}
-use Rattle.bb_net.specs.Net.{Gate, Flop, renamed, renamed_gate, renamed_flop}
+use Rattle.bb_base.specs.declared.variable.BitName.{BitName}
+use Rattle.bb_netlist.specs.Net.{Gate, Flop, renamed, renamed_gate, renamed_flop}
 use Rattle.bb_net.specs.Named.{Named, IsNamed}
-use Rattle.bb_net.proofs.Lists.{all_join, all_map_back, map_twice}
-use Rattle.bb_elab.specs.declared.fault.ElabFault.TheVariants.{TwoClocks, ClockNotInput, ClockAsData}
-use Rattle.bb_elab.specs.Firsts.{on_some}
-use Rattle.bb_elab.specs.Variables.{bit_count}
-use Rattle.bb_elab.specs.Making.{Work, Clocked}
-use Rattle.bb_elab.specs.Nets as elab
-use Rattle.bb_elab.specs.Nets.{input_bits, output_bits, has_bit, nets}
-use Rattle.bb_elab.specs.Clock.{is_buf, first_of, copied_by, behind, origin_within, origin, clock_pins, clock_not_input, clocks_fault, two_clocks, clock_of, is_clock, read_as_data, clock_as_data, clock_fault}
-use Rattle.bb_elab.specs.Outcome.{is_data, kept, by_bits}
-use Rattle.bb_print.proofs.RoleBits.{Rising, range_rises}
+use Rattle.bb_base.proofs.Lists.{all_join, all_map_back, map_twice}
+use Rattle.bb_fault.specs.declared.fault.ElabFault.TheVariants.{TwoClocks, ClockNotInput, ClockAsData}
+use Rattle.bb_fault.specs.Firsts.{on_some}
+use Rattle.bb_base.specs.Variables.{bit_count}
+use Rattle.bb_drive.specs.Work.{Work, Clocked}
+use Rattle.bb_drive.specs.Nets as elab
+use Rattle.bb_drive.specs.Nets.{input_bits, output_bits, has_bit, nets}
+use Rattle.bb_drive.specs.Clock.{is_buf, first_of, copied_by, origin_within, origin, clock_pins, clock_not_input, clocks_fault, two_clocks, clock_of, is_clock, read_as_data, clock_as_data, clock_fault}
+use Rattle.bb_drive.specs.Clock.{is_data}
+use Rattle.bb_assemble.specs.NamedOf.{kept, by_bits}
+use Rattle.bb_spell.proofs.Rising.{Rising, range_rises}
 use Rattle.bb_print.proofs.PrintedBits.{number_of}
 use Rattle.bb_print.proofs.PrintedWork.{net_number, clocked_by, flops_by}
 use Rattle.bb_print.proofs.PrintedNets.{net_below, clock_apart, no_flops, some_flops, work_by, inputs_none, inputs_some, outputs_are, IsNumber, is_net_bit, net_numbers, net_driven, clock_input, ds_are}
 use Rattle.bb_print.proofs.NetsOf.{output_nets, d_nets, gate_outs, gate_ins}
 use Rattle.bb_print.proofs.Sieves.{all_true, and_false, both_keep, filter_all, filter_few, flat_all, found_has, found_none, none_found, or_left, or_none, weaken}
 use Rattle.bb_print.proofs.NumberLists.{eq_itself, eq_other, eq_same, filter_has, filter_rises, has_all, has_none, range_all, range_long}
+use Rattle.bb_drive.specs.Clock.{copied_net}
 
 -- lists -----------------------------------------------------------------------------
 
@@ -67,14 +69,14 @@ module _ (a : Named) (h : IsNamed a) where
     clock_origin zero = refl
     clock_origin (suc s) = ap (λ o. on_some (copied_by o) k (origin_within s gates)) undriven
 
-    behind_other : (b x : ℕ) → behind gates b ≡ Some x → x ≢ k
+    behind_other : (b x : ℕ) → copied_net gates b ≡ Some x → x ≢ k
     behind_other b x f = copied_has (λ y. y ≢ k) (find (λ (g : Gate ℕ). nat_eq b g.out) gates) x (λ g at. found_has (λ (q : Gate ℕ). AllByRecursion (λ y. y ≢ k) q.ins) (λ (q : Gate ℕ). nat_eq b q.out) gates g unread at) f
 
     other_origin : (s b : ℕ) → b ≢ k → origin_within s gates b ≢ k
     other_origin zero b other = other
-    other_origin (suc s) b other = go (behind gates b) refl (λ x f. other_origin s x (behind_other b x f))
+    other_origin (suc s) b other = go (copied_net gates b) refl (λ x f. other_origin s x (behind_other b x f))
       where
-        go : (o : Option ℕ) → behind gates b ≡ o → ((x : ℕ) → behind gates b ≡ Some x → origin_within s gates x ≢ k) → on_some o b (origin_within s gates) ≢ k
+        go : (o : Option ℕ) → copied_net gates b ≡ o → ((x : ℕ) → copied_net gates b ≡ Some x → origin_within s gates x ≢ k) → on_some o b (origin_within s gates) ≢ k
         go None f rest = other
         go (Some x) f rest = rest x f
 
@@ -101,7 +103,7 @@ module _ (a : Named) (h : IsNamed a) where
 
     not_undriven : clock_not_input a.variables w ≡ None
     not_undriven =
-        ap (option_map (λ b. ClockNotInput (elab.named a.variables b).name (elab.named a.variables b).index))
+        ap (option_map (λ b. ClockNotInput (elab.bit_text a.variables b).name (elab.bit_text a.variables b).index))
         (found_none (is_net_bit a h (Some c)) (λ b. has_bit (clock_pins w) b && not (has_bit (input_bits a.variables) (origin w b))) (range_with_len 0 (bit_count a.variables))
         (λ b t. and_false (has_bit (clock_pins w) b) (not (has_bit (input_bits a.variables) (origin w b)))
         (λ there. let same : b ≡ k = has_all (λ x. x ≡ k) pins b (all_pins a.netlist.flops) there in
@@ -110,7 +112,7 @@ module _ (a : Named) (h : IsNamed a) where
     one_clock_of : (xs : List ℕ) → AllByRecursion (λ x. x ≡ k) xs → clocks_fault a.variables w xs ≡ None
     one_clock_of [] all = refl
     one_clock_of (x ∷ xs) all =
-        ap (λ o. on_some o None (λ second. Some (TwoClocks ((elab.named a.variables x).name, (elab.named a.variables x).index) ((elab.named a.variables second).name, (elab.named a.variables second).index))))
+        ap (λ o. on_some o None (λ second. Some (TwoClocks ((elab.bit_text a.variables x).name, (elab.bit_text a.variables x).index) ((elab.bit_text a.variables second).name, (elab.bit_text a.variables second).index))))
         (none_found (λ b. not (nat_eq x b)) xs (weaken (λ y. y ≡ k) (λ b. not (nat_eq x b) ≡ false) (λ b same. ap not (ap (nat_eq x) (same ∙ sym all.0) ∙ eq_itself x)) xs all.1))
 
     one_clock : two_clocks a.variables w ≡ None
@@ -130,7 +132,7 @@ module _ (a : Named) (h : IsNamed a) where
 
     not_data : clock_as_data a.variables w ≡ None
     not_data =
-        ap (option_map (λ b. ClockAsData (elab.named a.variables b).name (elab.named a.variables b).index))
+        ap (option_map (λ b. ClockAsData (elab.bit_text a.variables b).name (elab.bit_text a.variables b).index))
         (found_none (is_net_bit a h (Some c)) (λ b. is_clock w b && has_bit (read_as_data a.variables w) b) (range_with_len 0 (bit_count a.variables))
         (λ b t. and_false (is_clock w b) (has_bit (read_as_data a.variables w) b)
         (λ clock. let same : k ≡ b = eq_same k b (sym (is_clock_same b) ∙ clock) in
@@ -146,9 +148,9 @@ module _ (a : Named) (h : IsNamed a) where
   no_clock_right : clock_fault a.variables (work_by a h None) ≡ None
   no_clock_right =
       or_none (clock_not_input a.variables (work_by a h None)) (option_or (two_clocks a.variables (work_by a h None)) (clock_as_data a.variables (work_by a h None)))
-      (ap (option_map (λ b. ClockNotInput (elab.named a.variables b).name (elab.named a.variables b).index)) (nothing_found (is_net_bit a h None) (range_with_len 0 (bit_count a.variables))))
+      (ap (option_map (λ b. ClockNotInput (elab.bit_text a.variables b).name (elab.bit_text a.variables b).index)) (nothing_found (is_net_bit a h None) (range_with_len 0 (bit_count a.variables))))
       (or_none (two_clocks a.variables (work_by a h None)) (clock_as_data a.variables (work_by a h None)) refl
-      (ap (option_map (λ b. ClockAsData (elab.named a.variables b).name (elab.named a.variables b).index)) (nothing_found (is_net_bit a h None) (range_with_len 0 (bit_count a.variables)))))
+      (ap (option_map (λ b. ClockAsData (elab.bit_text a.variables b).name (elab.bit_text a.variables b).index)) (nothing_found (is_net_bit a h None) (range_with_len 0 (bit_count a.variables)))))
 
   pub no_clock_fault : (o : Option BitName) → a.clock ≡ o → clock_fault a.variables (work_by a h o) ≡ None
   no_clock_fault None e = no_clock_right
@@ -204,7 +206,7 @@ module _ (a : Named) (h : IsNamed a) where
   kept_has o e n l =
       filter_has (is_data (work_by a h o)) (nets a.variables (work_by a h o)) (num n) (net_free o e n l)
       (filter_has (is_net_bit a h o) (range_with_len 0 (bit_count a.variables)) (num n)
-      (or_left (has_bit (elab.driven a.variables (work_by a h o)) (num n)) (has_bit (elab.read a.variables (work_by a h o)) (num n)) (net_driven a h o e n l))
+      (or_left (has_bit (elab.bits_driven a.variables (work_by a h o)) (num n)) (has_bit (elab.bits_read a.variables (work_by a h o)) (num n)) (net_driven a h o e n l))
       (range_all (bit_count a.variables) (num n) (net_below a h n l)))
 
   pub kept_rises : (o : Option BitName) → Rising (kept a.variables (work_by a h o))

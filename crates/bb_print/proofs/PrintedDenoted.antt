@@ -8,21 +8,22 @@ use Rattle.std.proofs.lemmas.Option.{same_Some}
 use Rattle.std.proofs.lemmas.List.{get_or-map, get_or_default}
 use Rattle.std.proofs.lemmas.List.Elements.{All-from_recursion, recursion_from_All, All-map}
 use Rattle.std.proofs.lemmas.List.Sums.{passes_at_first}
-use Rattle.bb_net.specs.declared.variable.BitName.{BitName}
-use Rattle.bb_net.specs.Net.{Gate, Flop, Netlist, driven, renamed, renamed_gate, renamed_flop}
-use Rattle.bb_net.specs.Bits.{Entry, IsBit, range_width}
-use Rattle.bb_net.specs.Named.{Named, IsNamed, design_of, name_of_net}
-use Rattle.bb_net.specs.Order.{IsOrder}
-use Rattle.bb_net.proofs.Lists.{map_twice, length_map}
+use Rattle.bb_base.specs.declared.variable.BitName.{BitName}
+use Rattle.bb_netlist.specs.Net.{Gate, Flop, Netlist, driven, renamed, renamed_gate, renamed_flop}
+use Rattle.bb_base.specs.Variables.{Entry, IsBit, range_width, bit_count, limit_of, StandsBefore}
+use Rattle.bb_net.specs.Named.{Named, IsNamed, design_of, name_of_net, IsByBits}
+use Rattle.bb_netlist.specs.Order.{IsOrder, HasOrder}
+use Rattle.bb_base.proofs.Lists.{map_twice, length_map}
 use Rattle.bb_parse.specs.declared.syntax.Module.{Module}
-use Rattle.bb_elab.specs.Variables.{bit_count, limit_of}
-use Rattle.bb_elab.specs.Text.{text_fault}
-use Rattle.bb_elab.specs.Nets.{bit_name, has_bit, all_variables}
-use Rattle.bb_elab.specs.Clock.{clock_of}
-use Rattle.bb_elab.specs.Outcome.{kept, number_in, netlist_of, named_of, work_in, variables_in, net_fault, first_fault, denoted, HasOrder, IsOutcome}
+use Rattle.bb_width.specs.Text.{text_fault}
+use Rattle.bb_drive.specs.Nets.{bit_name, has_bit, all_variables}
+use Rattle.bb_drive.specs.Clock.{clock_of}
+use Rattle.bb_assemble.specs.NamedOf.{kept, named_of}
+use Rattle.bb_assemble.specs.NamedOf.{place_among, netlist_by_number}
+use Rattle.bb_elab.specs.Outcome.{work_in, variables_in, net_fault, first_fault, denoted, IsOutcome}
 use Rattle.bb_print.specs.Elaborated.{HasNamesFor, IsElaborable}
-use Rattle.bb_print.specs.Printed.{module_of, StandsBefore, IsByBits}
-use Rattle.bb_print.proofs.RoleBits.{Rising}
+use Rattle.bb_canon_parse.specs.Printed.{spelled_module}
+use Rattle.bb_spell.proofs.Rising.{Rising}
 use Rattle.bb_print.proofs.PrintedBits.{bit_number, number_of, bit_again}
 use Rattle.bb_print.proofs.PrintedWork.{net_number, net_bit, printed_variables, printed_work, printed_text}
 use Rattle.bb_print.proofs.PrintedNets.{clock_bit, work_by, no_driver_fault, all_variables_are}
@@ -54,7 +55,7 @@ module _ (a : Named) (h : IsNamed a) where
   bits o = kept a.variables (work_by a h o)
 
   abbrev rho : Option BitName → ℕ → ℕ
-  rho o n = number_in (bits o) (net_number a n)
+  rho o n = place_among (bits o) (net_number a n)
 
   abbrev names : Option BitName → List BitName
   names o = map (bit_name 0 a.variables) (bits o)
@@ -78,7 +79,7 @@ module _ (a : Named) (h : IsNamed a) where
       onto = λ i l.
           let within : i < length (bits o) = subst (λ z. i < z) (length_map (bit_name 0 a.variables) (bits o)) l in
           let found : IsNetBit a h (get_or (bits o) i 0) = All-from_recursion (IsNetBit a h) (bits o) (kept_nets a h o e) i 0 within in
-          (found.0, found.1, ap (number_in (bits o)) found.2 ∙ place_again (bits o) i 0 (kept_rises a h o) within);
+          (found.0, found.1, ap (place_among (bits o)) found.2 ∙ place_again (bits o) i 0 (kept_rises a h o) within);
     }
 
     clock_same : option_map (bit_name 0 a.variables) (clock_of (work_by a h o)) ≡ a.clock
@@ -88,8 +89,8 @@ module _ (a : Named) (h : IsNamed a) where
         go None f = refl
         go (Some c) f = ap Some (bit_again a.variables c (clock_bit a h c f))
 
-    netlist_same : netlist_of a.variables (work_by a h o) ≡ renamed (rho o) a.netlist
-    netlist_same = ap (renamed (number_in (bits o))) (by_bits_are a h o e) ∙ renamed_twice (number_in (bits o)) (net_number a) a.netlist
+    netlist_same : netlist_by_number a.variables (work_by a h o) ≡ renamed (rho o) a.netlist
+    netlist_same = ap (renamed (place_among (bits o))) (by_bits_are a h o e) ∙ renamed_twice (place_among (bits o)) (net_number a) a.netlist
 
     named_same : named_of a.module_name a.variables (work_by a h o) ≡ renumbered a (names o) (rho o)
     named_same = λ i. record { module_name = a.module_name; variables = a.variables; clock = clock_same i; names = names o; netlist = netlist_same i }
@@ -152,7 +153,7 @@ module _ (a : Named) (h : IsNamed a) where
 
       rho_same : (n : ℕ) → IsNet n → rho o n ≡ n
       rho_same n l =
-          ap (λ z. number_in z (net_number a n)) bits_same ∙ ap (number_in name_numbers) (sym (number_at n l))
+          ap (λ z. place_among z (net_number a n)) bits_same ∙ ap (place_among name_numbers) (sym (number_at n l))
           ∙ place_again name_numbers n 0 (subst Rising bits_same (kept_rises a h o)) (subst (λ z. n < z) (sym (length_map (number_of a.variables) a.names)) l)
 
       names_same : names o ≡ a.names
@@ -181,7 +182,7 @@ module _ (a : Named) (h : IsNamed a) where
 
   -- the module of the netlist's text
   abbrev spelled : Module
-  spelled = module_of (design_of a)
+  spelled = spelled_module (design_of a)
 
   variables_same : variables_in spelled ≡ a.variables
   variables_same = (λ i. all_variables (printed_variables a h i) (printed_work a h i)) ∙ all_variables_are a h a.clock
@@ -190,24 +191,24 @@ module _ (a : Named) (h : IsNamed a) where
   denoted_is = (λ i. named_of a.module_name (variables_same i) (printed_work a h i)) ∙ named_same a.clock refl
 
   -- has no fault
-  pub no_fault : (own : Bool) → HasNamesFor own a → bit_count a.variables ≤ limit_of own → first_fault own (module_of (design_of a)) ≡ None
+  pub no_fault : (own : Bool) → HasNamesFor own a → bit_count a.variables ≤ limit_of own → first_fault own (spelled_module (design_of a)) ≡ None
   no_fault own named small = or_none (text_fault own spelled) (net_fault (variables_in spelled) (work_in spelled)) (printed_text a h own named small) ((λ i. net_fault (variables_same i) (printed_work a h i)) ∙ net_faults a.clock refl)
 
   -- and denotes a netlist of the same design
-  pub denoted_named : IsNamed (denoted (module_of (design_of a)))
+  pub denoted_named : IsNamed (denoted (spelled_module (design_of a)))
   denoted_named = subst IsNamed (sym denoted_is) (renumbered_named a (names a.clock) (rho a.clock) h (numbers a.clock refl))
 
-  pub denoted_design : design_of (denoted (module_of (design_of a))) ≡ design_of a
+  pub denoted_design : design_of (denoted (spelled_module (design_of a))) ≡ design_of a
   denoted_design = ap design_of denoted_is ∙ renumbered_design a (names a.clock) (rho a.clock) h (numbers a.clock refl)
 
   -- which is the netlist itself where its nets are numbered so
-  pub denoted_same : IsByBits a → denoted (module_of (design_of a)) ≡ a
+  pub denoted_same : IsByBits a → denoted (spelled_module (design_of a)) ≡ a
   denoted_same ordered = denoted_is ∙ all_fixed a.clock refl ordered
 
-  pub denoted_order : HasOrder a.netlist.gates → HasOrder (denoted (module_of (design_of a))).netlist.gates
+  pub denoted_order : HasOrder a.netlist.gates → HasOrder (denoted (spelled_module (design_of a))).netlist.gates
   denoted_order order = (order.0, subst (λ (z : Named). IsOrder z.netlist.gates order.0) (sym denoted_is) (renumbered_order a (names a.clock) (rho a.clock) h (numbers a.clock refl) order.0 order.1))
 
-  pub elaborated : (own : Bool) → IsElaborable own a → IsOutcome own (module_of (design_of a)) (Ok (denoted (module_of (design_of a))))
+  pub elaborated : (own : Bool) → IsElaborable own a → IsOutcome own (spelled_module (design_of a)) (Ok (denoted (spelled_module (design_of a))))
   elaborated own fits = (no_fault own fits.names fits.bits, refl, denoted_named, denoted_order fits.order)
 
   -- nets are no more than bits

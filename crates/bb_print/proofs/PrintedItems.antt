@@ -4,35 +4,41 @@ use Rattle.std.specs.Prelude.{flat_map, ◌&&◌}
 use Rattle.std.specs.List.{AllByRecursion, list_all}
 use Rattle.std.specs.Option.{option_or}
 use Rattle.std.proofs.lemmas.Bool.Decides.{nat_tests}
-use Rattle.bb_net.specs.declared.net.Op.{Op}
-use Rattle.bb_net.specs.declared.net.Op.TheVariants.{And, Nand, Or, Nor, Xor, Xnor, Not, Buf, Zero, One}
-use Rattle.bb_net.specs.declared.variable.BitName.{BitName}
-use Rattle.bb_net.specs.Net.{Gate, Flop, renamed_gate, renamed_flop, HasArity, IsArity}
-use Rattle.bb_net.specs.Bits.{Entry, Bit, IsBit, bit_of, bit_in}
+use Rattle.bb_base.specs.declared.operator.Op.{Op}
+use Rattle.bb_base.specs.declared.operator.Op.TheVariants.{And, Nand, Or, Nor, Xor, Xnor, Not, Buf, Zero, One}
+use Rattle.bb_base.specs.declared.variable.BitName.{BitName}
+use Rattle.bb_netlist.specs.Net.{Gate, Flop, renamed_gate, renamed_flop, HasArity}
+use Rattle.bb_base.specs.Operators.{IsArity}
+use Rattle.bb_base.specs.Variables.{Entry, Bit, IsBit, bit_of, bit_in}
 use Rattle.bb_parse.specs.declared.syntax.Item.{Item}
 use Rattle.bb_parse.specs.declared.syntax.Step.{Step}
-use Rattle.bb_elab.specs.Firsts.{first_answer}
-use Rattle.bb_elab.specs.Names.{has_name, steps_names, item_names}
-use Rattle.bb_elab.specs.Declarations.{item_decls}
-use Rattle.bb_elab.specs.Cells.{Kind, kind_of, is_plain, unknown_item}
-use Rattle.bb_elab.specs.References.{ref_span, ref_fault, width_of, span_fault}
-use Rattle.bb_elab.specs.Sizes.{expr_fault, of_nets, width, differs}
-use Rattle.bb_elab.specs.Parts.{item_fault, prim_fault, out_count, are_right_terms}
-use Rattle.bb_elab.specs.Making.{Work, Clocked, Read, ref_bits, grounded, as_value, terminal_made, terminals_made, driven_bits, prim_made, all_driven, nets_of, register_made, item_made, To, copied_onto, const_bits}
-use Rattle.bb_print.specs.Printed as printed
-use Rattle.bb_print.specs.Printed.{reference, bit_steps}
+use Rattle.bb_fault.specs.Firsts.{first_answer}
+use Rattle.bb_scope.specs.Names.{has_name, steps_names, item_names}
+use Rattle.bb_scope.specs.Declarations.{item_decls}
+use Rattle.bb_scope.specs.Cells.{Kind, kind_of, is_plain, unknown_item}
+use Rattle.bb_scope.specs.References.{ref_span, ref_fault, width_of, span_fault}
+use Rattle.bb_width.specs.Sizes.{expr_fault, of_nets, width, differs}
+use Rattle.bb_width.specs.Parts.{item_fault, prim_fault, are_right_terms}
+use Rattle.bb_scope.specs.Terminals.{out_count}
+use Rattle.bb_drive.specs.Work.{Work, Clocked}
+use Rattle.bb_gates.specs.Making.{Read, grounded, as_value, terminal_made, terminals_made, driven_bits, prim_made, all_driven, nets_of, item_made, copied_onto, const_bits}
+use Rattle.bb_scope.specs.References.{ref_bits}
+use Rattle.bb_canon_parse.specs.Printed as printed
+use Rattle.bb_canon_parse.specs.Printed.{reference, bit_steps}
 use Rattle.bb_print.proofs.PrintedBits.{Differ, number_of, span_is, bits_are}
 use Rattle.bb_print.proofs.PrintedNames.{names_of, has_at}
 use Rattle.bb_print.proofs.Sieves.{or_none}
+use Rattle.bb_gates.specs.Making.{flip_flop_made}
+use Rattle.bb_gates.specs.Making.{To}
 
 -- a bit's text names a bit of a variable, which has this number
-pub record Stands (vs : List Entry) (b : Bit) (k : ℕ) : Type 0 where
+pub record ItemStands (vs : List Entry) (b : Bit) (k : ℕ) : Type 0 where
   pub name : has_name (names_of vs) b.name ≡ true
   pub fault : (line : ℕ) → ref_fault vs line (reference b) ≡ None
   pub wide : width_of (ref_span vs (reference b)) ≡ 1
   pub bits : ref_bits vs (reference b) ≡ k ∷ []
 
-pub stands_of : (vs : List Entry) (bit : BitName) → Differ vs → IsBit vs bit → Stands vs (bit_of vs bit) (number_of vs bit)
+pub stands_of : (vs : List Entry) (bit : BitName) → Differ vs → IsBit vs bit → ItemStands vs (bit_of vs bit) (number_of vs bit)
 stands_of vs bit differ h =
     let span = span_is vs bit differ h in
     record {
@@ -62,18 +68,18 @@ from_some (Some x) h = x
 
 module _ (vs : List Entry) where
   -- the expression that is one bit
-  pub expr_none : (b : Bit) (k line : ℕ) → Stands vs b k → expr_fault vs line 1 (bit_steps b) ≡ None
+  pub expr_none : (b : Bit) (k line : ℕ) → ItemStands vs b k → expr_fault vs line 1 (bit_steps b) ≡ None
   expr_none b k line h =
       or_none (option_or (ref_fault vs line (reference b)) None) _ (or_none (ref_fault vs line (reference b)) None (h.fault line) refl)
       (ap (λ z. differs line (nat_eq (width (of_nets z)) 1)) h.wide)
 
-  pub terminal_is : (b : Bit) (k : ℕ) (w : Work) → Stands vs b k → terminal_made vs (bit_steps b) w ≡ (k ∷ [], w)
+  pub terminal_is : (b : Bit) (k : ℕ) (w : Work) → ItemStands vs b k → terminal_made vs (bit_steps b) w ≡ (k ∷ [], w)
   terminal_is b k w h = ap (λ z. grounded (as_value z) w) h.bits
 
   -- bits by the nets that they are
   module _ (t : ℕ → Bit) (num : ℕ → ℕ) where
     abbrev pub Net : ℕ → Type 0
-    Net n = Stands vs (t n) (num n)
+    Net n = ItemStands vs (t n) (num n)
 
     abbrev pub terms : List ℕ → List (List Step)
     terms ns = map bit_steps (map t ns)
@@ -192,7 +198,7 @@ module _ (vs : List Entry) where
       pub q : Net f.q
       pub d : Net f.d
 
-    pub flop_sound : (clock : Bit) (k line : ℕ) (f : Flop ℕ) → Stands vs clock k → FlopStands f → IsSound vs (printed.clocked clock line (renamed_flop t f))
+    pub flop_sound : (clock : Bit) (k line : ℕ) (f : Flop ℕ) → ItemStands vs clock k → FlopStands f → IsSound vs (printed.clocked clock line (renamed_flop t f))
     flop_sound clock k line f h s = record {
       names = (h.name, (s.q.name, (s.d.name, tt)));
       decls = refl;
@@ -207,10 +213,10 @@ module _ (vs : List Entry) where
     abbrev data_pin : List ℕ
     data_pin = codes "D"
 
-    pub flop_made : (clock : Bit) (k line : ℕ) (f : Flop ℕ) → Stands vs clock k → FlopStands f → (w : Work) → (item_made vs (printed.clocked clock line (renamed_flop t f)) w).1 ≡ with_flop w (record { q = num f.q; d = num f.d; clock = k })
+    pub flop_made : (clock : Bit) (k line : ℕ) (f : Flop ℕ) → ItemStands vs clock k → FlopStands f → (w : Work) → (item_made vs (printed.clocked clock line (renamed_flop t f)) w).1 ≡ with_flop w (record { q = num f.q; d = num f.d; clock = k })
     flop_made clock k line f h s w =
         let q : List ℕ = ref_bits vs (reference (t f.q)) in
-        let finish : Read → Work → Work = λ read v. (register_made (To (ref_bits vs (reference (t f.q)))) (nets_of read clock_pin ∷ nets_of read data_pin ∷ []) v).1 in
+        let finish : Read → Work → Work = λ read v. (flip_flop_made (To (ref_bits vs (reference (t f.q)))) (nets_of read clock_pin ∷ nets_of read data_pin ∷ []) v).1 in
         ap (λ (r : List ℕ × Work). finish ((clock_pin, r.0) ∷ (data_pin, (terminal_made vs (bit_steps (t f.d)) r.1).0) ∷ []) (terminal_made vs (bit_steps (t f.d)) r.1).1) (terminal_is clock k w h)
         ∙ ap (λ (r : List ℕ × Work). finish ((clock_pin, k ∷ []) ∷ (data_pin, r.0) ∷ []) r.1) (terminal_is (t f.d) (num f.d) w s.d)
-        ∙ ap (λ z. (register_made (To z) ((k ∷ []) ∷ (num f.d ∷ []) ∷ []) w).1) s.q.bits
+        ∙ ap (λ z. (flip_flop_made (To z) ((k ∷ []) ∷ (num f.d ∷ []) ∷ []) w).1) s.q.bits

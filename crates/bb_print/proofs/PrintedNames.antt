@@ -6,19 +6,22 @@ use Rattle.std.specs.Str.{bytes_eq}
 use Rattle.std.proofs.lemmas.Option.{same_Some}
 use Rattle.std.proofs.lemmas.List.Folds.{list_any-append}
 use Rattle.bb_lex.specs.Text.{number}
-use Rattle.bb_net.specs.declared.variable.Role.{Role}
-use Rattle.bb_net.specs.declared.variable.Role.TheVariants.{Input, Output, Wire}
-use Rattle.bb_net.specs.Bits.{Entry, is_port}
+use Rattle.bb_base.specs.declared.variable.Role.{Role}
+use Rattle.bb_base.specs.declared.variable.Role.TheVariants.{Input, Output, Wire}
+use Rattle.bb_base.specs.Variables.{Entry, is_port}
 use Rattle.bb_parse.specs.declared.syntax.Decl.{Decl}
-use Rattle.bb_elab.specs.Firsts.{on_some, first_behind}
-use Rattle.bb_elab.specs.Names.{has_name, with_name}
-use Rattle.bb_elab.specs.Declarations.{is_direction, clashes, has_direction, is_odd_port, is_stray}
-use Rattle.bb_elab.specs.Variables.{role_of, range_of, entry_of}
-use Rattle.bb_elab.proofs.Keys.{name_itself, other_name}
-use Rattle.bb_net.proofs.Lists.{map_join, all_join, all_map_back}
-use Rattle.bb_print.specs.Canonical.{port_names}
+use Rattle.bb_fault.specs.Firsts.{on_some, first_behind}
+use Rattle.bb_scope.specs.Names.{has_name}
+use Rattle.bb_scope.specs.Declarations.{is_direction, clashes, has_direction, is_odd_port, is_stray}
+use Rattle.bb_scope.specs.Variables.{entry_of}
+use Rattle.bb_fault.proofs.Keys.{name_itself, other_name}
+use Rattle.bb_base.proofs.Lists.{map_join, all_join, all_map_back}
+use Rattle.bb_spell.specs.Canonical.{port_names}
 use Rattle.bb_print.proofs.PrintedBits.{Differ}
 use Rattle.bb_print.proofs.Sieves.{all_items, and_false, item_at, or_left, or_right}
+use Rattle.bb_scope.specs.Names.{with_new_name}
+use Rattle.bb_scope.specs.Variables.{declared_role}
+use Rattle.bb_scope.specs.Variables.{declared_range}
 
 abbrev pub names_of : List Entry → List (List ℕ)
 names_of vs = map (λ v. v.0) vs
@@ -30,24 +33,24 @@ fold_join f start [] ys = refl
 fold_join f start (x ∷ xs) ys = fold_join f (f start x) xs ys
 
 -- names that stand already add nothing
-pub names_kept : (acc xs : List (List ℕ)) → AllByRecursion (λ x. has_name acc x ≡ true) xs → fold with_name acc xs ≡ acc
+pub names_kept : (acc xs : List (List ℕ)) → AllByRecursion (λ x. has_name acc x ≡ true) xs → fold with_new_name acc xs ≡ acc
 names_kept acc [] h = refl
 names_kept acc (x ∷ xs) h =
     let here : has_name acc x ≡ true = h.0 in
-    let one : with_name acc x ≡ acc = rw here refl in
-    ap (λ z. fold with_name z xs) one ∙ names_kept acc xs h.1
+    let one : with_new_name acc x ≡ acc = rw here refl in
+    ap (λ z. fold with_new_name z xs) one ∙ names_kept acc xs h.1
 
 -- each name stands nowhere before
 abbrev pub New : List (List ℕ) → List (List ℕ) → Type 0
 New acc [] = Unit {0}
 New acc (x ∷ xs) = (has_name acc x ≡ false) × New (acc ++ x ∷ []) xs
 
-pub names_added : (acc xs : List (List ℕ)) → New acc xs → fold with_name acc xs ≡ acc ++ xs
+pub names_added : (acc xs : List (List ℕ)) → New acc xs → fold with_new_name acc xs ≡ acc ++ xs
 names_added acc [] h = sym (append-nil acc)
 names_added acc (x ∷ xs) h =
     let here : has_name acc x ≡ false = h.0 in
-    let one : with_name acc x ≡ acc ++ x ∷ [] = rw here refl in
-    ap (λ z. fold with_name z xs) one ∙ names_added (acc ++ x ∷ []) xs h.1 ∙ append_assoc acc (x ∷ []) xs
+    let one : with_new_name acc x ≡ acc ++ x ∷ [] = rw here refl in
+    ap (λ z. fold with_new_name z xs) one ∙ names_added (acc ++ x ∷ []) xs h.1 ∙ append_assoc acc (x ∷ []) xs
 
 new_front : (acc xs ys : List (List ℕ)) → New acc (xs ++ ys) → New acc xs
 new_front acc [] ys h = tt
@@ -125,18 +128,18 @@ ports_first (v ∷ vs) h = go (port v) refl (ports_first vs (λ i j x y less xi 
         record { others = v ∷ vs; parts = ap (λ z. z ++ v ∷ vs) (sym none); no_port = (e, rest) }
 
 -- the names in the order of their first uses are the variables' names
-pub names_again : (vs : List Entry) (used : List (List ℕ)) → PortsFirst vs → Differ vs → AllByRecursion (λ x. has_name (names_of vs) x ≡ true) used → fold with_name [] (port_names vs ++ (names_of vs ++ used)) ≡ names_of vs
+pub names_again : (vs : List Entry) (used : List (List ℕ)) → PortsFirst vs → Differ vs → AllByRecursion (λ x. has_name (names_of vs) x ≡ true) used → fold with_new_name [] (port_names vs ++ (names_of vs ++ used)) ≡ names_of vs
 names_again vs used p d h =
     let ps : List Entry = filter port vs in
     let parts : names_of vs ≡ names_of ps ++ names_of p.others = ap names_of p.parts ∙ map_join (λ (v : Entry). v.0) ps p.others in
     let all : New [] (names_of ps ++ names_of p.others) = subst (New []) parts (new_names [] vs (no_names vs) d) in
-    let first : fold with_name [] (names_of ps) ≡ names_of ps = names_added [] (names_of ps) (new_front [] (names_of ps) (names_of p.others) all) in
-    let again : fold with_name (names_of ps) (names_of ps) ≡ names_of ps = names_kept (names_of ps) (names_of ps) (has_all ps) in
-    let second : fold with_name (names_of ps) (names_of p.others) ≡ names_of ps ++ names_of p.others = names_added (names_of ps) (names_of p.others) (new_back [] (names_of ps) (names_of p.others) all) in
-    let both : fold with_name (names_of ps) (names_of vs) ≡ names_of vs =
-    ap (fold with_name (names_of ps)) parts ∙ fold_join with_name (names_of ps) (names_of ps) (names_of p.others) ∙ ap (λ z. fold with_name z (names_of p.others)) again ∙ second ∙ sym parts in
-    fold_join with_name [] (names_of ps) (names_of vs ++ used) ∙ ap (λ z. fold with_name z (names_of vs ++ used)) first
-    ∙ fold_join with_name (names_of ps) (names_of vs) used ∙ ap (λ z. fold with_name z used) both ∙ names_kept (names_of vs) used h
+    let first : fold with_new_name [] (names_of ps) ≡ names_of ps = names_added [] (names_of ps) (new_front [] (names_of ps) (names_of p.others) all) in
+    let again : fold with_new_name (names_of ps) (names_of ps) ≡ names_of ps = names_kept (names_of ps) (names_of ps) (has_all ps) in
+    let second : fold with_new_name (names_of ps) (names_of p.others) ≡ names_of ps ++ names_of p.others = names_added (names_of ps) (names_of p.others) (new_back [] (names_of ps) (names_of p.others) all) in
+    let both : fold with_new_name (names_of ps) (names_of vs) ≡ names_of vs =
+    ap (fold with_new_name (names_of ps)) parts ∙ fold_join with_new_name (names_of ps) (names_of ps) (names_of p.others) ∙ ap (λ z. fold with_new_name z (names_of p.others)) again ∙ second ∙ sym parts in
+    fold_join with_new_name [] (names_of ps) (names_of vs ++ used) ∙ ap (λ z. fold with_new_name z (names_of vs ++ used)) first
+    ∙ fold_join with_new_name (names_of ps) (names_of vs) used ∙ ap (λ z. fold with_new_name z used) both ∙ names_kept (names_of vs) used h
 
 -- declarations -----------------------------------------------------------------
 
@@ -147,7 +150,7 @@ abbrev pub decls_by : ℕ → List Entry → List Decl
 decls_by before [] = []
 decls_by before (v ∷ vs) = decl (number before) v ∷ decls_by (before + 1) vs
 
-pub range_is : (before : ℕ) (vs : List Entry) (i : ℕ) (v : Entry) → Differ vs → slice_get vs i ≡ Some v → range_of (decls_by before vs) v.0 ≡ v.1.range
+pub range_is : (before : ℕ) (vs : List Entry) (i : ℕ) (v : Entry) → Differ vs → slice_get vs i ≡ Some v → declared_range (decls_by before vs) v.0 ≡ v.1.range
 range_is before [] i v h at = cc
 range_is before (w ∷ ws) zero v h at =
     let same : w ≡ v = same_Some w v at in
@@ -164,13 +167,13 @@ undirected before (w ∷ ws) name h =
     let test : (is_port w.1.role && bytes_eq name w.0) ≡ false = and_false (is_port w.1.role) (bytes_eq name w.0) (λ e. other_name w.0 name h.0) in
     rw test (undirected (before + 1) ws name h.1)
 
-pub role_is : (before : ℕ) (vs : List Entry) (i : ℕ) (v : Entry) → Differ vs → slice_get vs i ≡ Some v → role_of (decls_by before vs) v.0 ≡ v.1.role
+pub role_is : (before : ℕ) (vs : List Entry) (i : ℕ) (v : Entry) → Differ vs → slice_get vs i ≡ Some v → declared_role (decls_by before vs) v.0 ≡ v.1.role
 role_is before [] i v h at = cc
 role_is before (w ∷ ws) zero v h at =
     let same : w ≡ v = same_Some w v at in
-    subst (λ (u : Entry). role_of (decls_by before (w ∷ ws)) u.0 ≡ u.1.role) same (here w.1.role refl)
+    subst (λ (u : Entry). declared_role (decls_by before (w ∷ ws)) u.0 ≡ u.1.role) same (here w.1.role refl)
   where
-    here : (r : Role) → w.1.role ≡ r → role_of (decls_by before (w ∷ ws)) w.0 ≡ w.1.role
+    here : (r : Role) → w.1.role ≡ r → declared_role (decls_by before (w ∷ ws)) w.0 ≡ w.1.role
     here Input e =
         let test : (is_port w.1.role && bytes_eq w.0 w.0) ≡ true = ap (λ r. is_port r && bytes_eq w.0 w.0) e ∙ name_itself w.0 in
         rw test refl

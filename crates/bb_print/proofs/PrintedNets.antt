@@ -6,19 +6,18 @@ use Rattle.std.specs.Option.{option_map}
 use Rattle.std.proofs.lemmas.Bool.Decides.{nat_tests}
 use Rattle.std.proofs.lemmas.Option.{same_Some}
 use Rattle.std.proofs.lemmas.List.Folds.{list_any-append}
-use Rattle.bb_net.specs.declared.variable.BitName.{BitName}
-use Rattle.bb_net.specs.declared.variable.Role.{Role}
-use Rattle.bb_net.specs.declared.variable.Role.TheVariants.{Input, Output, Wire}
-use Rattle.bb_net.specs.Net.{Gate, Flop, times, renamed_gate}
-use Rattle.bb_net.specs.Bits.{Entry, IsBit, is_input, is_output, range_width, role_bits}
+use Rattle.bb_base.specs.declared.variable.BitName.{BitName}
+use Rattle.bb_base.specs.declared.variable.Role.{Role}
+use Rattle.bb_base.specs.declared.variable.Role.TheVariants.{Input, Output, Wire}
+use Rattle.bb_netlist.specs.Net.{Gate, Flop, times, renamed_gate}
+use Rattle.bb_base.specs.Variables.{Entry, IsBit, is_input, is_output, range_width, role_bits, bit_count}
 use Rattle.bb_net.specs.Named.{Named, IsNamed, name_of_net}
-use Rattle.bb_net.proofs.Lists.{all_join, all_map_back, map_twice}
-use Rattle.bb_net.proofs.TimesLemmas.{times_join}
-use Rattle.bb_elab.specs.declared.fault.ElabFault.TheVariants.{TwoDrivers, Undriven}
-use Rattle.bb_elab.specs.Variables.{bit_count}
-use Rattle.bb_elab.specs.Making.{Work, Clocked}
-use Rattle.bb_elab.specs.Nets as elab
-use Rattle.bb_elab.specs.Nets.{input_bits, output_bits, has_bit, nets, made_count, made_names, made_variable, all_variables, first_net, driver_fault, two_drivers, undriven}
+use Rattle.bb_base.proofs.Lists.{all_join, all_map_back, map_twice}
+use Rattle.bb_netlist.proofs.TimesLemmas.{times_join}
+use Rattle.bb_fault.specs.declared.fault.ElabFault.TheVariants.{TwoDrivers, Undriven}
+use Rattle.bb_drive.specs.Work.{Work, Clocked}
+use Rattle.bb_drive.specs.Nets as elab
+use Rattle.bb_drive.specs.Nets.{input_bits, output_bits, has_bit, nets, made_names, made_variable, all_variables, driver_fault, two_drivers, undriven}
 use Rattle.bb_print.proofs.PrintedBits.{number_of, one_number, bit_below}
 use Rattle.bb_print.proofs.PrintedPorts.{names_numbers, names_stand, names_but, names_apart, numbers_but, bits_have, bits_once}
 use Rattle.bb_print.proofs.PrintedWork.{net_number, clocked_by, flops_by, net_bit}
@@ -134,10 +133,10 @@ module _ (a : Named) (h : IsNamed a) where
   abbrev ds : List ℕ
   ds = map (λ (f : Flop ℕ). f.d) a.netlist.flops
 
-  driven_are : (o : Option BitName) → a.clock ≡ o → elab.driven a.variables (work_by o) ≡ input_bits a.variables ++ (map num outs ++ map num qs)
+  driven_are : (o : Option BitName) → a.clock ≡ o → elab.bits_driven a.variables (work_by o) ≡ input_bits a.variables ++ (map num outs ++ map num qs)
   driven_are o e = λ i. input_bits a.variables ++ (outs_are i ++ qs_are o e i)
 
-  driven_numbers : (o : Option BitName) → a.clock ≡ o → AllByRecursion (IsNumber o) (elab.driven a.variables (work_by o))
+  driven_numbers : (o : Option BitName) → a.clock ≡ o → AllByRecursion (IsNumber o) (elab.bits_driven a.variables (work_by o))
   driven_numbers o e = subst (AllByRecursion (IsNumber o)) (sym (driven_are o e))
       (all_join (IsNumber o) (input_bits a.variables) (map num outs ++ map num qs) (inputs_numbers o e) (all_join (IsNumber o) (map num outs) (map num qs) (are_numbers o outs (out_nets a h)) (are_numbers o qs (q_nets a h))))
 
@@ -149,10 +148,10 @@ module _ (a : Named) (h : IsNamed a) where
       go [] = tt
       go (f ∷ fs) = (inr (c, refl, refl), go fs)
 
-  read_are : (o : Option BitName) → a.clock ≡ o → elab.read a.variables (work_by o) ≡ map num a.netlist.outputs ++ (map num all_ins ++ (map num ds ++ map (λ (f : Clocked). f.clock) (flops_by a o)))
+  read_are : (o : Option BitName) → a.clock ≡ o → elab.bits_read a.variables (work_by o) ≡ map num a.netlist.outputs ++ (map num all_ins ++ (map num ds ++ map (λ (f : Clocked). f.clock) (flops_by a o)))
   read_are o e = λ i. outputs_are i ++ (flat_map_map num a.netlist.gates i ++ (ds_are o e i ++ map (λ (f : Clocked). f.clock) (flops_by a o)))
 
-  read_numbers : (o : Option BitName) → a.clock ≡ o → AllByRecursion (IsNumber o) (elab.read a.variables (work_by o))
+  read_numbers : (o : Option BitName) → a.clock ≡ o → AllByRecursion (IsNumber o) (elab.bits_read a.variables (work_by o))
   read_numbers o e =
       let pins : List ℕ = map (λ (f : Clocked). f.clock) (flops_by a o) in
       subst (AllByRecursion (IsNumber o)) (sym (read_are o e))
@@ -160,10 +159,10 @@ module _ (a : Named) (h : IsNamed a) where
       (all_join (IsNumber o) (map num all_ins) (map num ds ++ pins) (are_numbers o all_ins (in_nets a h)) (all_join (IsNumber o) (map num ds) pins (are_numbers o ds (d_nets a h)) (pins_numbers o))))
 
   abbrev pub is_net_bit : Option BitName → ℕ → Bool
-  is_net_bit o b = has_bit (elab.driven a.variables (work_by o)) b || has_bit (elab.read a.variables (work_by o)) b
+  is_net_bit o b = has_bit (elab.bits_driven a.variables (work_by o)) b || has_bit (elab.bits_read a.variables (work_by o)) b
 
   pub net_numbers : (o : Option BitName) → a.clock ≡ o → (b : ℕ) → is_net_bit o b ≡ true → IsNumber o b
-  net_numbers o e b t = or_parts (has_bit (elab.driven a.variables (work_by o)) b) (has_bit (elab.read a.variables (work_by o)) b) t (has_all (IsNumber o) (elab.driven a.variables (work_by o)) b (driven_numbers o e)) (has_all (IsNumber o) (elab.read a.variables (work_by o)) b (read_numbers o e))
+  net_numbers o e b t = or_parts (has_bit (elab.bits_driven a.variables (work_by o)) b) (has_bit (elab.bits_read a.variables (work_by o)) b) t (has_all (IsNumber o) (elab.bits_driven a.variables (work_by o)) b (driven_numbers o e)) (has_all (IsNumber o) (elab.bits_read a.variables (work_by o)) b (read_numbers o e))
 
   -- each has one driver
   moved_times : (n : ℕ) (xs : List ℕ) → IsNet n → AllByRecursion IsNet xs → times (num n) (map num xs) ≡ times n xs
@@ -179,7 +178,7 @@ module _ (a : Named) (h : IsNamed a) where
       go false f = refl
       go true f = absurd (clock_apart c n e l (grind (arith, nat_tests)))
 
-  net_once : (o : Option BitName) → a.clock ≡ o → (n : ℕ) → IsNet n → times (num n) (elab.driven a.variables (work_by o)) ≡ 1
+  net_once : (o : Option BitName) → a.clock ≡ o → (n : ℕ) → IsNet n → times (num n) (elab.bits_driven a.variables (work_by o)) ≡ 1
   net_once o e n l =
       let parts = times_join (num n) (input_bits a.variables) (map num outs ++ map num qs) in
       let more = times_join (num n) (map num outs) (map num qs) in
@@ -189,13 +188,13 @@ module _ (a : Named) (h : IsNamed a) where
       let y = moved_times n outs l (out_nets a h) in
       let z = moved_times n qs l (q_nets a h) in
       let one = h.netlist.one_driver n (omega (arith, h.names, l)) in
-      let same : times (num n) (elab.driven a.variables (work_by o)) ≡ times (num n) (input_bits a.variables ++ (map num outs ++ map num qs)) = ap (times (num n)) (driven_are o e) in
+      let same : times (num n) (elab.bits_driven a.variables (work_by o)) ≡ times (num n) (input_bits a.variables ++ (map num outs ++ map num qs)) = ap (times (num n)) (driven_are o e) in
       omega (arith, parts, more, old, older, x, y, z, one, same)
 
   nets_other : (c : BitName) → a.clock ≡ Some c → (xs : List ℕ) → AllByRecursion IsNet xs → AllByRecursion (λ x. x ≢ number_of a.variables c) (map num xs)
   nets_other c e xs all = all_map_back (λ x. x ≢ number_of a.variables c) IsNet num (λ n l same. clock_apart c n e l same) xs all
 
-  clock_once : (c : BitName) → a.clock ≡ Some c → times (number_of a.variables c) (elab.driven a.variables (work_by (Some c))) ≤ 1
+  clock_once : (c : BitName) → a.clock ≡ Some c → times (number_of a.variables c) (elab.bits_driven a.variables (work_by (Some c))) ≤ 1
   clock_once c e =
       let k : ℕ = number_of a.variables c in
       let parts = times_join k (input_bits a.variables) (map num outs ++ map num qs) in
@@ -203,12 +202,12 @@ module _ (a : Named) (h : IsNamed a) where
       let x = bits_once is_input k 0 a.variables in
       let y = times_other k (map num outs) (nets_other c e outs (out_nets a h)) in
       let z = times_other k (map num qs) (nets_other c e qs (q_nets a h)) in
-      let same : times k (elab.driven a.variables (work_by (Some c))) ≡ times k (input_bits a.variables ++ (map num outs ++ map num qs)) = ap (times k) (driven_are (Some c) e) in
+      let same : times k (elab.bits_driven a.variables (work_by (Some c))) ≡ times k (input_bits a.variables ++ (map num outs ++ map num qs)) = ap (times k) (driven_are (Some c) e) in
       omega (arith, parts, more, x, y, z, same)
 
-  once : (o : Option BitName) → a.clock ≡ o → (b : ℕ) → IsNumber o b → times b (elab.driven a.variables (work_by o)) ≤ 1
-  once o e b (inl x) = subst (λ z. times z (elab.driven a.variables (work_by o)) ≤ 1) x.2 (omega (arith, net_once o e x.0 x.1))
-  once o e b (inr x) = subst (λ z. times z (elab.driven a.variables (work_by o)) ≤ 1) x.2 (subst (λ z. times (number_of a.variables x.0) (elab.driven a.variables (work_by z)) ≤ 1) (sym x.1) (clock_once x.0 (e ∙ x.1)))
+  once : (o : Option BitName) → a.clock ≡ o → (b : ℕ) → IsNumber o b → times b (elab.bits_driven a.variables (work_by o)) ≤ 1
+  once o e b (inl x) = subst (λ z. times z (elab.bits_driven a.variables (work_by o)) ≤ 1) x.2 (omega (arith, net_once o e x.0 x.1))
+  once o e b (inr x) = subst (λ z. times z (elab.bits_driven a.variables (work_by o)) ≤ 1) x.2 (subst (λ z. times (number_of a.variables x.0) (elab.bits_driven a.variables (work_by z)) ≤ 1) (sym x.1) (clock_once x.0 (e ∙ x.1)))
 
   pub clock_input : (c : BitName) → a.clock ≡ Some c → has_bit (input_bits a.variables) (number_of a.variables c) ≡ true
   clock_input c e =
@@ -216,11 +215,11 @@ module _ (a : Named) (h : IsNamed a) where
       let start : 0 + number_of a.variables c ≡ number_of a.variables c = omega arith in
       ap (has_bit (input_bits a.variables)) (sym start) ∙ bits_have is_input 0 a.variables c.variable c.place k.stands.entry k.stands.stands k.input k.stands.place
 
-  pub net_driven : (o : Option BitName) → a.clock ≡ o → (n : ℕ) → n < length a.names → has_bit (elab.driven a.variables (work_by o)) (net_number a n) ≡ true
-  net_driven o e n l = has_times (num n) (elab.driven a.variables (work_by o)) (omega (arith, net_once o e n l))
+  pub net_driven : (o : Option BitName) → a.clock ≡ o → (n : ℕ) → n < length a.names → has_bit (elab.bits_driven a.variables (work_by o)) (net_number a n) ≡ true
+  net_driven o e n l = has_times (num n) (elab.bits_driven a.variables (work_by o)) (omega (arith, net_once o e n l))
 
-  number_driven : (o : Option BitName) → a.clock ≡ o → (b : ℕ) → IsNumber o b → has_bit (elab.driven a.variables (work_by o)) b ≡ true
-  number_driven o e b (inl x) = ap (has_bit (elab.driven a.variables (work_by o))) (sym x.2) ∙ net_driven o e x.0 x.1
+  number_driven : (o : Option BitName) → a.clock ≡ o → (b : ℕ) → IsNumber o b → has_bit (elab.bits_driven a.variables (work_by o)) b ≡ true
+  number_driven o e b (inl x) = ap (has_bit (elab.bits_driven a.variables (work_by o))) (sym x.2) ∙ net_driven o e x.0 x.1
   number_driven o e b (inr x) =
       list_any-append (nat_eq b) (input_bits a.variables) _ ∙ or_left (has_bit (input_bits a.variables) b) _ (ap (has_bit (input_bits a.variables)) (sym x.2) ∙ clock_input x.0 (e ∙ x.1))
 
@@ -230,11 +229,11 @@ module _ (a : Named) (h : IsNamed a) where
   pub no_driver_fault : (o : Option BitName) → a.clock ≡ o → driver_fault a.variables (work_by o) ≡ None
   no_driver_fault o e =
       or_none (two_drivers a.variables (work_by o)) (undriven a.variables (work_by o))
-      (ap (option_map (λ b. TwoDrivers (elab.named a.variables b).name (elab.named a.variables b).index))
-      (found_none (is_net_bit o) (λ b. nat_lt 1 (count_by (nat_eq b) (elab.driven a.variables (work_by o)))) (range_with_len 0 (bit_count a.variables))
-      (λ b t. few b (count_by (nat_eq b) (elab.driven a.variables (work_by o))) (subst (λ z. z ≤ 1) (sym (count_is b (elab.driven a.variables (work_by o)))) (once o e b (net_numbers o e b t))))))
-      (ap (option_map (λ b. Undriven (elab.named a.variables b).name (elab.named a.variables b).index))
-      (found_none (is_net_bit o) (λ b. not (has_bit (elab.driven a.variables (work_by o)) b)) (range_with_len 0 (bit_count a.variables))
+      (ap (option_map (λ b. TwoDrivers (elab.bit_text a.variables b).name (elab.bit_text a.variables b).index))
+      (found_none (is_net_bit o) (λ b. nat_lt 1 (count_by (nat_eq b) (elab.bits_driven a.variables (work_by o)))) (range_with_len 0 (bit_count a.variables))
+      (λ b t. few b (count_by (nat_eq b) (elab.bits_driven a.variables (work_by o))) (subst (λ z. z ≤ 1) (sym (count_is b (elab.bits_driven a.variables (work_by o)))) (once o e b (net_numbers o e b t))))))
+      (ap (option_map (λ b. Undriven (elab.bit_text a.variables b).name (elab.bit_text a.variables b).index))
+      (found_none (is_net_bit o) (λ b. not (has_bit (elab.bits_driven a.variables (work_by o)) b)) (range_with_len 0 (bit_count a.variables))
       (λ b t. ap not (number_driven o e b (net_numbers o e b t)))))
 
   -- all variables are the text's

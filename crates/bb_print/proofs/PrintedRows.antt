@@ -1,10 +1,10 @@
 -- Worked netlists: the modules that their texts spell, and what these denote.
 use Rattle.std.specs.Prelude.{◌≡◌, ℕ, List, [], ◌∷◌, codes, Option, Some, None, refl, true}
-use Rattle.bb_net.specs.declared.net.Op.TheVariants as op
-use Rattle.bb_net.specs.declared.variable.Role.{Role}
-use Rattle.bb_net.specs.declared.variable.Role.TheVariants.{Input, Output, Wire}
-use Rattle.bb_net.specs.declared.variable.BitName.{BitName}
-use Rattle.bb_net.specs.Bits.{Entry}
+use Rattle.bb_base.specs.declared.operator.Op.TheVariants as op
+use Rattle.bb_base.specs.declared.variable.Role.{Role}
+use Rattle.bb_base.specs.declared.variable.Role.TheVariants.{Input, Output, Wire}
+use Rattle.bb_base.specs.declared.variable.BitName.{BitName}
+use Rattle.bb_base.specs.Variables.{Entry}
 use Rattle.bb_net.specs.Named.{Named, design_of}
 use Rattle.bb_parse.specs.declared.syntax.Step.{Step}
 use Rattle.bb_parse.specs.declared.syntax.Step.TheVariants as step
@@ -13,7 +13,7 @@ use Rattle.bb_parse.specs.declared.syntax.Item.{Item}
 use Rattle.bb_parse.specs.declared.syntax.Item.TheVariants as item
 use Rattle.bb_parse.specs.declared.syntax.Header.TheVariants.{Plain}
 use Rattle.bb_elab.specs.Outcome.{first_fault, denoted}
-use Rattle.bb_print.specs.Printed.{module_of}
+use Rattle.bb_canon_parse.specs.Printed.{spelled_module}
 
 abbrev variable : List ℕ → Option (ℕ × ℕ) → Role → Entry
 variable name range role = (name, record { range = range; role = role })
@@ -48,7 +48,7 @@ half =
     }
 
 half_spelled :
-    module_of (design_of half)
+    spelled_module (design_of half)
     ≡ record {
       name = codes "half";
       header = Plain (codes "a" ∷ codes "b" ∷ codes "s" ∷ codes "c" ∷ []);
@@ -59,7 +59,7 @@ half_spelled :
     }
 half_spelled = refl
 
-half_again : denoted (module_of (design_of half)) ≡ half
+half_again : denoted (spelled_module (design_of half)) ≡ half
 half_again = refl
 
 -- a constant, a vector and a clock, with nets in another order
@@ -80,7 +80,7 @@ turned =
     }
 
 turned_spelled :
-    module_of (design_of turned)
+    spelled_module (design_of turned)
     ≡ record {
       name = codes "turned";
       header = Plain (codes "clk" ∷ codes "d" ∷ codes "q" ∷ []);
@@ -92,11 +92,11 @@ turned_spelled :
     }
 turned_spelled = refl
 
-turned_right : first_fault true (module_of (design_of turned)) ≡ None
+turned_right : first_fault true (spelled_module (design_of turned)) ≡ None
 turned_right = refl
 
 turned_again :
-    denoted (module_of (design_of turned))
+    denoted (spelled_module (design_of turned))
     ≡ record {
       module_name = codes "turned";
       variables = turned.variables;

@@ -6,30 +6,33 @@ use Rattle.std.proofs.lemmas.List.Concat.{flat_map-append}
 use Rattle.std.specs.Option.{option_map, option_or}
 use Rattle.std.proofs.lemmas.Bool.Decides.{nat_tests}
 use Rattle.bb_lex.specs.Text.{number}
-use Rattle.bb_net.specs.Bits.{Entry}
+use Rattle.bb_base.specs.Variables.{Entry, bit_count, limit_of}
 use Rattle.bb_parse.specs.declared.syntax.Decl.{Decl}
 use Rattle.bb_parse.specs.declared.syntax.Item.{Item}
 use Rattle.bb_parse.specs.declared.syntax.Header.TheVariants.{Plain}
 use Rattle.bb_parse.specs.declared.syntax.Module.{Module}
-use Rattle.bb_elab.specs.declared.fault.ElabFault.TheVariants.{Redeclared, BadPort, Reserved}
-use Rattle.bb_elab.specs.Firsts.{first_answer, first_behind}
-use Rattle.bb_elab.specs.Names.{has_name, with_name, item_names, variable_names, is_reserved, reserved, mentioned}
-use Rattle.bb_elab.specs.Declarations.{item_decls, declarations, clashes, is_odd_port, is_stray, redeclared, bad_port}
-use Rattle.bb_elab.specs.Variables.{variables, entry_of, bit_count, too_many, limit_of}
-use Rattle.bb_elab.specs.Cells.{unknown_item, unknown_cell}
-use Rattle.bb_elab.specs.Parts.{item_fault, bad_part, all_bits, too_many_bits, too_many_nets}
-use Rattle.bb_elab.specs.Text.{text_fault, name_fault, part_fault}
-use Rattle.bb_elab.proofs.Keys.{same_name}
+use Rattle.bb_fault.specs.declared.fault.ElabFault.TheVariants.{Redeclared, BadPort, Reserved}
+use Rattle.bb_fault.specs.Firsts.{first_answer, first_behind}
+use Rattle.bb_scope.specs.Names.{has_name, item_names, variable_names, reserved, mentioned}
+use Rattle.bb_base.specs.OwnNames.{is_reserved}
+use Rattle.bb_scope.specs.Declarations.{item_decls, declarations, clashes, is_odd_port, is_stray, redeclared, bad_port}
+use Rattle.bb_scope.specs.Variables.{variables, entry_of}
+use Rattle.bb_fault.specs.Limits.{too_many}
+use Rattle.bb_scope.specs.Cells.{unknown_item, unknown_cell}
+use Rattle.bb_width.specs.Parts.{item_fault, bad_part, all_bits, too_many_bits, too_many_nets}
+use Rattle.bb_width.specs.Text.{text_fault, name_fault, part_fault}
+use Rattle.bb_fault.proofs.Keys.{same_name}
 use Rattle.std.specs.Str.{bytes_eq}
-use Rattle.bb_elab.specs.Making.{work_of}
+use Rattle.bb_gates.specs.Making.{work_of}
 use Rattle.bb_elab.proofs.Counting.{module-fresh}
-use Rattle.bb_net.proofs.Lists.{all_join, all_map_back}
-use Rattle.bb_print.specs.Canonical.{port_names}
-use Rattle.bb_print.specs.Printed.{declared, by_lines}
+use Rattle.bb_base.proofs.Lists.{all_join, all_map_back}
+use Rattle.bb_spell.specs.Canonical.{port_names}
+use Rattle.bb_canon_parse.specs.Printed.{declared, by_lines}
 use Rattle.bb_print.proofs.PrintedBits.{Differ}
 use Rattle.bb_print.proofs.PrintedNames.{names_of, PortsFirst, names_again, decls_by, entries_again, undeclared_twice, none_before, no_odd_port, new_ports, ports_directed, no_stray, port, filter_names}
 use Rattle.bb_print.proofs.PrintedItems.{IsSound}
 use Rattle.bb_print.proofs.Sieves.{flat_all, or_none, weaken, or_parts, none_found}
+use Rattle.bb_scope.specs.Names.{with_new_name}
 
 flat_none : {X Y : Type 0} (f : X → List Y) (xs : List X) → AllByRecursion (λ x. f x ≡ []) xs → flat_map f xs ≡ []
 flat_none f [] h = refl
@@ -79,7 +82,7 @@ module _ (name : List ℕ) (vs : List Entry) (rest : List Item) (differ : Differ
 
   all_names : variable_names whole ≡ names_of vs
   all_names =
-      ap (λ z. fold with_name [] (port_names vs ++ z)) (flat_map-append item_names (by_lines declared 1 vs) rest ∙ ap (λ z. z ++ flat_map item_names rest) (declared_names 1 vs))
+      ap (λ z. fold with_new_name [] (port_names vs ++ z)) (flat_map-append item_names (by_lines declared 1 vs) rest ∙ ap (λ z. z ++ flat_map item_names rest) (declared_names 1 vs))
       ∙ names_again vs (flat_map item_names rest) first differ used_names
 
   all_decls : declarations whole ≡ decls_by 1 vs

@@ -4,23 +4,25 @@ use Rattle.std.specs.List.{AllByRecursion}
 use Rattle.std.specs.Option.{option_map}
 use Rattle.std.proofs.lemmas.List.Elements.{recursion_from_All}
 use Rattle.bb_lex.specs.Text.{number}
-use Rattle.bb_net.specs.declared.variable.BitName.{BitName}
-use Rattle.bb_net.specs.Net.{Gate, Flop, renamed_gate, renamed_flop, HasArity}
-use Rattle.bb_net.specs.Bits.{Entry, Bit, IsBit, bit_of}
+use Rattle.bb_base.specs.declared.variable.BitName.{BitName}
+use Rattle.bb_netlist.specs.Net.{Gate, Flop, renamed_gate, renamed_flop, HasArity}
+use Rattle.bb_base.specs.Variables.{Entry, Bit, IsBit, bit_of, bit_count, limit_of}
 use Rattle.bb_net.specs.Named.{Named, IsNamed, design_of, net_text, name_of_net}
-use Rattle.bb_net.proofs.Lists.{all_join}
+use Rattle.bb_base.proofs.Lists.{all_join}
 use Rattle.bb_parse.specs.declared.syntax.Item.{Item}
-use Rattle.bb_elab.specs.Variables.{variables, bit_count, limit_of}
-use Rattle.bb_elab.specs.Text.{text_fault}
-use Rattle.bb_elab.specs.Making.{Work, Clocked, item_made, items_made, work_of}
+use Rattle.bb_scope.specs.Variables.{variables}
+use Rattle.bb_width.specs.Text.{text_fault}
+use Rattle.bb_drive.specs.Work.{Work, Clocked}
+use Rattle.bb_gates.specs.Making.{item_made, items_made, work_of}
 use Rattle.bb_elab.specs.Outcome.{work_in}
-use Rattle.bb_print.specs.Printed.{declared, stated, clocked, by_lines, flops_by_lines, module_of}
+use Rattle.bb_canon_parse.specs.Printed.{declared, stated, clocked, by_lines, flops_by_lines, spelled_module}
 use Rattle.bb_print.proofs.PrintedBits.{Differ, differ_from, number_of}
 use Rattle.bb_print.proofs.PrintedNames.{PortsFirst, ports_first}
-use Rattle.bb_print.proofs.PrintedItems.{Stands, stands_of, IsSound, Net, GateStands, FlopStands, gate_sound, flop_sound, gate_made, flop_made, with_gate, with_flop}
+use Rattle.bb_print.proofs.PrintedItems.{ItemStands, stands_of, IsSound, Net, GateStands, FlopStands, gate_sound, flop_sound, gate_made, flop_made, with_gate, with_flop}
 use Rattle.bb_print.proofs.PrintedText.{variables_are, not_reserved, no_text_fault}
 use Rattle.bb_print.specs.Elaborated.{HasNamesFor}
-use Rattle.bb_elab.specs.Names.{is_reserved, reserved}
+use Rattle.bb_base.specs.OwnNames.{is_reserved}
+use Rattle.bb_scope.specs.Names.{reserved}
 use Rattle.bb_print.proofs.NetsOf.{gate_outs, gate_ins, flop_qs, flop_ds}
 use Rattle.bb_print.proofs.Sieves.{weaken}
 
@@ -48,7 +50,7 @@ module _ (vs : List Entry) (t : ℕ → Bit) (num : ℕ → ℕ) where
   abbrev clocked_flop : ℕ → Flop ℕ → Clocked
   clocked_flop k f = record { q = num f.q; d = num f.d; clock = k }
 
-  flops_made : (clock : Bit) (k before : ℕ) (fs : List (Flop ℕ)) (w : Work) → Stands vs clock k → AllByRecursion (FlopStands vs t num) fs → items_made vs (by_lines (clocked clock) before (map (renamed_flop t) fs)) w ≡ record w { flops = w.flops ++ map (clocked_flop k) fs }
+  flops_made : (clock : Bit) (k before : ℕ) (fs : List (Flop ℕ)) (w : Work) → ItemStands vs clock k → AllByRecursion (FlopStands vs t num) fs → items_made vs (by_lines (clocked clock) before (map (renamed_flop t) fs)) w ≡ record w { flops = w.flops ++ map (clocked_flop k) fs }
   flops_made clock k before [] w s h = λ i. record w { flops = sym (append-nil w.flops) i }
   flops_made clock k before (f ∷ fs) w s h =
       ap (items_made vs (by_lines (clocked clock) (before + 1) (map (renamed_flop t) fs))) (flop_made vs t num clock k (number before) f s h.0 w)
@@ -86,7 +88,7 @@ module _ (a : Named) (h : IsNamed a) where
   pub net_bit : (n : ℕ) → n < length a.names → IsBit a.variables (name_of_net a n)
   net_bit n less = h.consistent.bits n (record { variable = 0; place = 0 }) less
 
-  net_stands : (n : ℕ) → IsNet n → Stands a.variables (net_text a n) (net_number a n)
+  net_stands : (n : ℕ) → IsNet n → ItemStands a.variables (net_text a n) (net_number a n)
   net_stands n less = stands_of a.variables (name_of_net a n) differ (net_bit n less)
 
   abbrev IsGate : Gate ℕ → Type 0
@@ -109,7 +111,7 @@ module _ (a : Named) (h : IsNamed a) where
   all_flops : AllByRecursion IsFlop a.netlist.flops
   all_flops = flops_stand a.netlist.flops (flop_qs a h) (flop_ds a h)
 
-  clock_stands : (c : BitName) → a.clock ≡ Some c → Stands a.variables (bit_of a.variables c) (number_of a.variables c)
+  clock_stands : (c : BitName) → a.clock ≡ Some c → ItemStands a.variables (bit_of a.variables c) (number_of a.variables c)
   clock_stands c e = stands_of a.variables c differ (h.consistent.clock c e).stands
 
   -- gates and flip-flops behind so many lines
@@ -144,17 +146,17 @@ module _ (a : Named) (h : IsNamed a) where
       ∙ flops_are a.clock refl behind (record { fresh = bit_count a.variables; gates = map (renamed_gate (net_number a)) a.netlist.gates; flops = [] }) refl
 
   -- the variables
-  pub printed_variables : variables (module_of (design_of a)) ≡ a.variables
+  pub printed_variables : variables (spelled_module (design_of a)) ≡ a.variables
   printed_variables = variables_are a.module_name a.variables (gate_items _ ++ flop_items a.clock _) differ first (rest_sound _ _)
 
   -- the gates and flip-flops
-  pub printed_work : work_in (module_of (design_of a)) ≡ made_by a
-  printed_work = ap (λ z. work_of z (module_of (design_of a)).items) printed_variables ∙ made _ _
+  pub printed_work : work_in (spelled_module (design_of a)) ≡ made_by a
+  printed_work = ap (λ z. work_of z (spelled_module (design_of a)).items) printed_variables ∙ made _ _
 
   -- and no fault
-  pub printed_text : (own : Bool) → HasNamesFor own a → bit_count a.variables ≤ limit_of own → text_fault own (module_of (design_of a)) ≡ None
+  pub printed_text : (own : Bool) → HasNamesFor own a → bit_count a.variables ≤ limit_of own → text_fault own (spelled_module (design_of a)) ≡ None
   printed_text own named small = no_text_fault a.module_name a.variables (gate_items _ ++ flop_items a.clock _) differ first (rest_sound _ _) own (allowed own named) small (ap (λ (w : Work). w.fresh) (made _ _))
     where
-      allowed : (o : Bool) → HasNamesFor o a → reserved o (module_of (design_of a)) ≡ None
+      allowed : (o : Bool) → HasNamesFor o a → reserved o (spelled_module (design_of a)) ≡ None
       allowed true n = refl
       allowed false n = not_reserved a.module_name a.variables (gate_items _ ++ flop_items a.clock _) differ first (rest_sound _ _) n.0 (recursion_from_All (λ (v : Entry). is_reserved v.0 ≡ false) a.variables n.1)

@@ -1,24 +1,25 @@
 -- A netlist's canonical text denotes a netlist of its design.
 use Rattle.std.proofs.Common.{◌≡◌, inl, inr, ℕ, ◌≤◌, List, ◌++◌, length, map, true, Result, Ok, Err, sym, ap, ◌∙◌, arith, subst, Bool, false}
 use Rattle.std.proofs.lemmas.List.{append_cancel_left, length-append}
-use Rattle.bb_net.specs.Net.{Gate, Flop}
+use Rattle.bb_netlist.specs.Net.{Gate, Flop}
 use Rattle.bb_net.specs.Named.{Named, IsNamed, design_of}
-use Rattle.bb_net.proofs.Lists.{length_map}
-use Rattle.bb_net.proofs.CycleLemmas.{no_cycle}
-use Rattle.bb_net.proofs.WalkLemmas.{loop_cycles}
+use Rattle.bb_base.proofs.Lists.{length_map}
+use Rattle.bb_netlist.proofs.CycleLemmas.{no_cycle}
+use Rattle.bb_netlist.proofs.WalkLemmas.{loop_cycles}
 use Rattle.bb_lex.proofs.Spelled.{denoted_once}
 use Rattle.bb_parse.specs.declared.syntax.Module.{Module}
 use Rattle.bb_parse.specs.Meaning.{Denotes}
-use Rattle.bb_parse.proofs.Exact.{one_module}
-use Rattle.bb_elab.specs.declared.fault.ElabFault.{ElabFault}
-use Rattle.bb_elab.specs.Variables.{bit_count, limit_of}
+use Rattle.bb_grammar.proofs.Exact.{one_module}
+use Rattle.bb_fault.specs.declared.fault.ElabFault.{ElabFault}
+use Rattle.bb_base.specs.Variables.{bit_count, limit_of}
 use Rattle.bb_elab.specs.Outcome.{denoted, IsLooped, IsOutcome}
-use Rattle.bb_print.specs.Canonical.{canonical_text}
-use Rattle.bb_print.specs.Limits.{IsNumbered}
-use Rattle.bb_print.specs.Printed.{module_of, IsTextOf}
+use Rattle.bb_spell.specs.Canonical.{canonical_text}
+use Rattle.bb_spell.specs.Limits.{IsNumbered}
+use Rattle.bb_canon_parse.specs.Printed.{spelled_module}
+use Rattle.bb_parse.specs.Texts.{IsModuleOf}
 use Rattle.bb_print.specs.Elaborated.{IsElaborable, Restores}
-use Rattle.bb_print.proofs.Designs.{design_text}
-use Rattle.bb_print.proofs.Derived.{text_denotes}
+use Rattle.bb_spell.proofs.Texts.{design_text}
+use Rattle.bb_canon_parse.proofs.Derived.{text_denotes}
 use Rattle.bb_print.proofs.PrintedDenoted.{no_fault, elaborated, denoted_order, denoted_design, denoted_same, nets_few}
 
 -- flip-flops are no more than nets, and these no more than bits
@@ -36,20 +37,20 @@ numbered : (own : Bool) (a : Named) → IsNamed a → bit_count a.variables ≤ 
 numbered own a h small = record { named = h; flops = omega (arith, few_flops a h, small, limit_low own) }
 
 -- a text spells one module at most
-one_syntax : (text : List ℕ) (m n : Module) → IsTextOf m text → IsTextOf n text → n ≡ m
+one_syntax : (text : List ℕ) (m n : Module) → IsModuleOf m text → IsModuleOf n text → n ≡ m
 one_syntax text m n h k =
     let tokens : h.tokens ≡ k.tokens = (denoted_once text h.tokens k.tokens (Ok h.line) (Ok k.line) h.reads k.reads).0 in
     one_module k.tokens n m k.derives (subst (λ z. Denotes z m) tokens h.derives)
 
 module _ (own : Bool) (a : Named) (h : IsNamed a) (fits : IsElaborable own a) where
   abbrev syntax : Module
-  syntax = module_of (design_of a)
+  syntax = spelled_module (design_of a)
 
-  spelled : IsTextOf (module_of (design_of a)) (canonical_text (design_of a))
+  spelled : IsModuleOf (spelled_module (design_of a)) (canonical_text (design_of a))
   spelled = text_denotes (design_of a) (design_text a (numbered own a h fits.bits))
 
   -- its module has no other outcome
-  one_outcome : (result : Result Named ElabFault) → IsOutcome own (module_of (design_of a)) result → result ≡ Ok (denoted (module_of (design_of a)))
+  one_outcome : (result : Result Named ElabFault) → IsOutcome own (spelled_module (design_of a)) result → result ≡ Ok (denoted (spelled_module (design_of a)))
   one_outcome (Ok b) o = ap Ok o.1
   one_outcome (Err fault) (inl e) = cc (sym e ∙ no_fault a h own fits.names fits.bits)
   one_outcome (Err fault) (inr e) =
@@ -59,8 +60,8 @@ module _ (own : Bool) (a : Named) (h : IsNamed a) (fits : IsElaborable own a) wh
 
   pub text_restores : Restores own (canonical_text (design_of a)) a
   text_restores = record {
-    read = denoted (module_of (design_of a));
-    elaborates = record { syntax_of = module_of (design_of a); spells = spelled; outcome = elaborated a h own fits };
+    read = denoted (spelled_module (design_of a));
+    elaborates = record { syntax_of = spelled_module (design_of a); spells = spelled; outcome = elaborated a h own fits };
     only = λ result e. one_outcome result (subst (λ z. IsOutcome own z result) (one_syntax (canonical_text (design_of a)) syntax e.syntax_of spelled e.spells) e.outcome);
     design = denoted_design a h;
     same = denoted_same a h;

@@ -4,7 +4,7 @@ use Rattle.std.specs.Prelude.{filter, find, flat_map}
 use Rattle.std.specs.List.{AllByRecursion}
 use Rattle.std.specs.Option.{option_or}
 use Rattle.std.proofs.lemmas.Option.{same_Some}
-use Rattle.bb_net.proofs.Lists.{all_join}
+use Rattle.bb_base.proofs.Lists.{all_join}
 
 pub or_left : (a b : Bool) → a ≡ true → (a || b) ≡ true
 or_left true b h = refl

@@ -1,18 +1,11 @@
 -- What a canonical text elaborates to, where names of one's own are allowed and where not.
 use Rattle.std.specs.Prelude.{◌≡◌, ◌≤◌, ℕ, Bool, true, false, List, All, Result, Ok}
-use Rattle.bb_net.specs.Named.{Named, design_of}
-use Rattle.bb_parse.specs.declared.syntax.Module.{Module}
-use Rattle.bb_elab.specs.declared.fault.ElabFault.{ElabFault}
-use Rattle.bb_elab.specs.Names.{is_reserved}
-use Rattle.bb_elab.specs.Variables.{bit_count, limit_of}
-use Rattle.bb_elab.specs.Outcome.{HasOrder, IsOutcome}
-use Rattle.bb_print.specs.Printed.{IsByBits, IsTextOf}
-
--- the text has neither a lexical nor a grammatical fault, and its module has this outcome
-pub record ElaboratesTo (own : Bool) (text : List ℕ) (result : Result Named ElabFault) : Type 0 where
-  pub syntax_of : Module
-  pub spells : IsTextOf syntax_of text
-  pub outcome : IsOutcome own syntax_of result
+use Rattle.bb_net.specs.Named.{Named, design_of, IsByBits}
+use Rattle.bb_fault.specs.declared.fault.ElabFault.{ElabFault}
+use Rattle.bb_base.specs.OwnNames.{is_reserved}
+use Rattle.bb_base.specs.Variables.{bit_count, limit_of}
+use Rattle.bb_netlist.specs.Order.{HasOrder}
+use Rattle.bb_elab.specs.Denotes.{ElaboratesTo}
 
 -- names of one's own are allowed, or neither the module nor a variable has one
 abbrev pub HasNamesFor : Bool → Named → Type 0

@@ -1,14 +1,1 @@
-pub mod Spelling
-pub mod Canonical
-pub mod Reading
-pub mod Lines
-pub mod Drafting
-pub mod Limits
-pub mod Toward
-pub mod Faults
-pub mod Along
-pub mod Places
-pub mod Grammatical
-pub mod Forms
-pub mod Printed
 pub mod Elaborated

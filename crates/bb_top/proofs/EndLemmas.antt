@@ -1,25 +1,21 @@
 -- how a call ends, from what was prepared and written
-use Rattle.std.proofs.Common.{◌≡◌, ℕ, ◌<◌, ◌≤◌, List, length, Bool, false, Option, Some, Ok, Err, ap, sym, refl, ◌∙◌, subst, arith}
+use Rattle.std.proofs.Common.{◌≡◌, ℕ, ◌<◌, ◌≤◌, List, length, Bool, false, Option, Some, Ok, Err, ap, ◌∙◌, subst, arith}
 use Rattle.bb_edge.specs.Told.{Told, Held, Shows, SameBut, KeepsOrStarts, AppendsFront}
-use Rattle.bb_top.specs.Words.{Command, command_of, output_name}
+use Rattle.bb_read.specs.Words.{Command, command_of, output_name}
 use Rattle.bb_top.specs.Reads.{IsMade, IsReadable}
 use Rattle.std.specs.Prelude.{Result}
 use Rattle.bb_net.specs.Named.{Named}
 use Rattle.bb_lex.specs.declared.fault.LexFault.{LexFault}
 use Rattle.bb_parse.specs.declared.syntax.Module.{Module}
 use Rattle.bb_parse.specs.declared.fault.ParseFault.{ParseFault}
-use Rattle.bb_parse.specs.declared.fault.ParseFault.TheVariants as grammar
-use Rattle.bb_elab.specs.declared.fault.ElabFault.{ElabFault}
-use Rattle.bb_top.specs.declared.named.ReadFault.{ReadFault}
-use Rattle.bb_top.specs.declared.named.ReadFault.TheVariants as read
-use Rattle.bb_print.specs.Printed.{IsTextOf}
-use Rattle.bb_print.specs.Elaborated.{ElaboratesTo}
-use Rattle.bb_top.specs.Refusals.{Refuses, refusal_line}
+use Rattle.bb_fault.specs.declared.fault.ElabFault.{ElabFault}
+use Rattle.bb_read.specs.declared.fault.ReadFault.{ReadFault}
+use Rattle.bb_read.specs.declared.fault.ReadFault.TheVariants as read
+use Rattle.bb_parse.specs.Texts.{IsModuleOf, HasLexFault, HasParseFault}
+use Rattle.bb_elab.specs.Denotes.{ElaboratesTo}
+use Rattle.bb_top.specs.Refusals.{fault_in, refusal_line}
 use Rattle.bb_top.specs.declared.refusal.Refusal.{Refusal}
 use Rattle.bb_top.specs.declared.refusal.Refusal.TheVariants as refusals
-use Rattle.bb_top.specs.declared.text.TextFault.{TextFault}
-use Rattle.bb_top.specs.Texts.{IsBroken, HasLexFault, HasParseFault}
-use Rattle.bb_top.proofs.FlawLemmas.{same_fault}
 use Rattle.bb_top.specs.Ends.{IsRefused, IsDone, IsUnwritten, IsUnsaid, Refused, Done, done_line, file_limit}
 
 -- every other name is as it was
@@ -74,12 +70,14 @@ unsaid_done words old mid new told_old told_new c name made meant same n others 
 
 -- a text that is read has no refusal
 pub refused_unreadable :
-    (unbroken : (text : List ℕ) (m : Module) (fault : TextFault) → IsTextOf m text → IsBroken text fault → ⊥)
+    (no_lex : (text : List ℕ) (m : Module) (fault : LexFault) → IsModuleOf m text → HasLexFault text fault → ⊥)
+    (no_parse : (text : List ℕ) (m : Module) (fault : ParseFault) → IsModuleOf m text → HasParseFault text fault → ⊥)
     (one : (own : Bool) (text : List ℕ) (a b : Result Named ElabFault) → ElaboratesTo own text a → ElaboratesTo own text b → a ≡ b)
     (refusal : Refusal) (text : List ℕ) (a : Named) → IsRefused refusal text → length text ≤ file_limit → IsReadable a text → ⊥
-refused_unreadable unbroken one refusals.TooLong text a refused small r = omega (arith, refused, small)
-refused_unreadable unbroken one (refusals.Broken fault) text a refused small r = unbroken text r.syntax_of fault r.spells refused.1
-refused_unreadable unbroken one (refusals.Elab fault) text a refused small r = cc (one false text (Ok a) (Err fault) r refused.1)
+refused_unreadable no_lex no_parse one refusals.TooLong text a refused small r = omega (arith, refused, small)
+refused_unreadable no_lex no_parse one (refusals.Lex fault) text a refused small r = no_lex text r.syntax_of fault r.spells refused.1
+refused_unreadable no_lex no_parse one (refusals.Parse fault) text a refused small r = no_parse text r.syntax_of fault r.spells refused.1
+refused_unreadable no_lex no_parse one (refusals.Elab fault) text a refused small r = cc (one false text (Ok a) (Err fault) r refused.1)
 
 -- what is known of a text that gave this fault
 pub record Faulty (fault : ReadFault) (text : List ℕ) : Type 0 where
@@ -89,16 +87,11 @@ pub record Faulty (fault : ReadFault) (text : List ℕ) : Type 0 where
   pub elab : (f : ElabFault) → fault ≡ read.Elab f → (length text ≤ file_limit) × ElaboratesTo false text (Err f)
 
 -- the refusal that it is is the text's
-pub refused_by : (fault : ReadFault) (refusal : Refusal) (text : List ℕ) → Refuses fault refusal → Faulty fault text → IsRefused refusal text
-refused_by read.Read refusal text is known = absurd is
-refused_by read.TooLong refusal text is known = subst (λ r. IsRefused r text) (sym is) (known.too_long refl)
-refused_by (read.Lex f) refusal text is known =
-    let h = known.lex f refl in
-    subst (λ r. IsRefused r text) (sym is.2) (h.0, subst (IsBroken text) (same_fault h.1.0 is.0 f h.1.1 is.1) h.1.2)
-refused_by (read.Parse (grammar.Unreadable line)) refusal text is known = subst (λ r. IsRefused r text) (sym is) (known.parse (grammar.Unreadable line) refl)
-refused_by (read.Parse grammar.NoMemory) refusal text is known = absurd is
-refused_by (read.Elab f) refusal text is known = subst (λ r. IsRefused r text) (sym is) (known.elab f refl)
-refused_by read.NoMemory refusal text is known = absurd is
+pub refused_by : (fault : ReadFault) (refusal : Refusal) (text : List ℕ) → fault ≡ fault_in refusal → Faulty fault text → IsRefused refusal text
+refused_by fault refusals.TooLong text is known = known.too_long is
+refused_by fault (refusals.Lex f) text is known = known.lex f is
+refused_by fault (refusals.Parse f) text is known = known.parse f is
+refused_by fault (refusals.Elab f) text is known = known.elab f is
 
 -- one command is meant
 pub same_command : (words : List (List ℕ)) (c d : Command) → command_of words ≡ Some c → command_of words ≡ Some d → c ≡ d

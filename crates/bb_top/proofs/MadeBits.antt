@@ -4,15 +4,17 @@ use Rattle.std.specs.Option.{option_or}
 use Rattle.std.specs.List.{range_with_len}
 use Rattle.std.proofs.lemmas.List.{length-take}
 use Rattle.std.proofs.lemmas.Bool.Decides.{nat_tests}
-use Rattle.bb_net.specs.Bits.{Entry}
+use Rattle.bb_base.specs.Variables.{Entry, bit_count, limit_of}
 use Rattle.bb_parse.specs.declared.syntax.Module.{Module}
-use Rattle.bb_elab.specs.Variables.{variables, bit_count, limit_of, too_many}
-use Rattle.bb_elab.specs.Parts.{bad_part, all_bits, too_many_nets}
-use Rattle.bb_elab.specs.Making.{work_of}
-use Rattle.bb_elab.specs.Nets.{made_variable, made_name, made_names, made_count, is_variable}
+use Rattle.bb_scope.specs.Variables.{variables}
+use Rattle.bb_fault.specs.Limits.{too_many}
+use Rattle.bb_width.specs.Parts.{bad_part, all_bits, too_many_nets}
+use Rattle.bb_gates.specs.Making.{work_of}
+use Rattle.bb_drive.specs.Nets.{made_variable, made_names, made_count, is_variable}
+use Rattle.bb_base.specs.OwnNames.{made_name}
 use Rattle.bb_elab.specs.Outcome.{first_fault, net_fault, variables_in, work_in}
-use Rattle.bb_elab.specs.Text.{name_fault, part_fault, text_fault}
-use Rattle.bb_elab.specs.Cells.{unknown_cell}
+use Rattle.bb_width.specs.Text.{name_fault, part_fault, text_fault}
+use Rattle.bb_scope.specs.Cells.{unknown_cell}
 
 -- where neither of two faults is one, each is none
 none_first : {A : Type 0} (a b : Option A) → option_or a b ≡ None → a ≡ None

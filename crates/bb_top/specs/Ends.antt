@@ -1,11 +1,11 @@
 -- How a call may end, and what the files then hold. The lines and the limit are this project's own.
 use Rattle.std.specs.Prelude.{◌≡◌, ◌<◌, ◌≤◌, ℕ, false, List, length, codes, Option, Some, None, Err}
 use Rattle.bb_edge.specs.Told.{Told, Held, Shows, SameBut, KeepsOrStarts, AppendsFront}
-use Rattle.bb_top.specs.Words.{Command, command_of, output_name}
+use Rattle.bb_read.specs.Words.{Command, command_of, output_name}
 use Rattle.bb_top.specs.declared.refusal.Refusal.{Refusal}
-use Rattle.bb_top.specs.declared.refusal.Refusal.TheVariants.{TooLong, Broken, Elab}
-use Rattle.bb_top.specs.Texts.{IsBroken}
-use Rattle.bb_print.specs.Elaborated.{ElaboratesTo}
+use Rattle.bb_top.specs.declared.refusal.Refusal.TheVariants.{TooLong, Lex, Parse, Elab}
+use Rattle.bb_parse.specs.Texts.{HasLexFault, HasParseFault}
+use Rattle.bb_elab.specs.Denotes.{ElaboratesTo}
 use Rattle.bb_top.specs.Reads.{IsMade}
 use Rattle.bb_top.specs.Refusals.{refusal_line}
 
@@ -21,10 +21,11 @@ usage_line = codes "usage: bilbo compile IN PREFIX\n"
 abbrev pub done_line : List ℕ
 done_line = codes "done\n"
 
--- the text has this refusal: it is too long, or else it is no module's text, or else its module has this fault
+-- the text has this refusal: it is too long, or else this is its first flaw, or else its module has this fault
 abbrev pub IsRefused : Refusal → List ℕ → Type 0
 IsRefused TooLong text = file_limit < length text
-IsRefused (Broken fault) text = (length text ≤ file_limit) × IsBroken text fault
+IsRefused (Lex fault) text = (length text ≤ file_limit) × HasLexFault text fault
+IsRefused (Parse fault) text = (length text ≤ file_limit) × HasParseFault text fault
 IsRefused (Elab fault) text = (length text ≤ file_limit) × ElaboratesTo false text (Err fault)
 
 -- the call is done: the output file is made of the input's text, and no other file changed

@@ -1,12 +1,3 @@
-pub mod Thin
-pub mod ThinText
-pub mod Normal
-pub mod Weaving
-pub mod Layout
-pub mod Woven
-pub mod Words
 pub mod Reads
-pub mod Texts
 pub mod Refusals
 pub mod Ends
-pub mod TextReading

@@ -1,20 +1,20 @@
 -- The lines of refusals. Their words are this project's own.
-use Rattle.std.specs.Prelude.{◌≡◌, ℕ, List, [], ◌∷◌, ◌++◌, codes, decimal, Option, if◌then◌else◌}
-use Rattle.bb_elab.specs.declared.fault.ElabFault.{ElabFault}
-use Rattle.bb_elab.specs.declared.fault.ElabFault.TheVariants.{Reserved, Redeclared, BadPort, TooMany, UnknownCell, BadPins, BadSelect, WidthDiffers, TooWide, TwoDrivers, Undriven, ClockNotInput, TwoClocks, ClockAsData, Loop, NoMemory}
-use Rattle.bb_print.specs.Spelling.{is_plain, spelled_index}
-use Rattle.bb_top.specs.declared.refusal.Refusal.{Refusal}
-use Rattle.bb_top.specs.declared.refusal.Refusal.TheVariants.{TooLong, Broken, Elab}
+use Rattle.std.specs.Prelude.{ℕ, List, [], ◌∷◌, ◌++◌, codes, decimal, Option, if◌then◌else◌}
+use Rattle.bb_fault.specs.declared.fault.ElabFault.{ElabFault}
+use Rattle.bb_fault.specs.declared.fault.ElabFault.TheVariants.{Reserved, Redeclared, BadPort, TooMany, UnknownCell, BadPins, BadSelect, WidthDiffers, TooWide, TwoDrivers, Undriven, ClockNotInput, TwoClocks, ClockAsData, Loop, NoMemory}
+use Rattle.bb_spell.specs.Spelling.{stands_plain, spelled_index}
+use Rattle.bb_lex.specs.declared.fault.LexFault.{LexFault}
+use Rattle.bb_lex.specs.declared.fault.LexFault.TheVariants as lexical
+use Rattle.bb_parse.specs.declared.fault.ParseFault.{ParseFault}
 use Rattle.bb_parse.specs.declared.fault.ParseFault.TheVariants as grammar
-use Rattle.bb_top.specs.declared.named.ReadFault.{ReadFault}
-use Rattle.bb_top.specs.declared.named.ReadFault.TheVariants as read
-use Rattle.bb_top.specs.declared.text.Flaw.TheVariants.{Unreadable}
-use Rattle.bb_top.specs.declared.text.TextFault.{TextFault}
-use Rattle.bb_top.specs.Texts.{IsFlawOf, flaw_words}
+use Rattle.bb_read.specs.declared.fault.ReadFault.{ReadFault}
+use Rattle.bb_read.specs.declared.fault.ReadFault.TheVariants as read
+use Rattle.bb_top.specs.declared.refusal.Refusal.{Refusal}
+use Rattle.bb_top.specs.declared.refusal.Refusal.TheVariants.{TooLong, Lex, Parse, Elab}
 
 -- a name in a line: as texts spell it, but with no space behind an escaped one
 unfoldable pub said_name : List ℕ → List ℕ
-said_name name = if is_plain name then name else 92 ∷ name
+said_name name = if stands_plain name then name else 92 ∷ name
 
 -- a name, and the index of a vector's bit
 abbrev pub said : List ℕ → Option ℕ → List ℕ
@@ -43,22 +43,33 @@ elab_words (ClockAsData name select) = codes "clock as data " ++ said name selec
 elab_words (Loop name select count) = codes "loop through " ++ (said name select ++ (codes ", " ++ (decimal count ++ codes " nets")))
 elab_words NoMemory = []
 
+-- the reader's fault that a refusal tells
+abbrev pub fault_in : Refusal → ReadFault
+fault_in TooLong = read.TooLong
+fault_in (Lex fault) = read.Lex fault
+fault_in (Parse fault) = read.Parse fault
+fault_in (Elab fault) = read.Elab fault
+
+-- the words of a lexical fault
+abbrev pub lex_words : LexFault → List ℕ
+lex_words (lexical.BadByte line) = at_line line (codes "bad byte")
+lex_words (lexical.BadNumber line) = at_line line (codes "bad number")
+lex_words (lexical.LongName line) = at_line line (codes "long name")
+lex_words (lexical.OpenComment line) = at_line line (codes "open comment")
+lex_words lexical.NoMemory = []
+
+-- the words of a fault of the grammar
+abbrev pub parse_words : ParseFault → List ℕ
+parse_words (grammar.Unreadable line) = at_line line (codes "unreadable")
+parse_words grammar.NoMemory = []
+
 -- the words of a refusal
 abbrev pub refusal_words : Refusal → List ℕ
 refusal_words TooLong = codes "too long"
-refusal_words (Broken fault) = at_line fault.line (flaw_words fault.flaw)
+refusal_words (Lex fault) = lex_words fault
+refusal_words (Parse fault) = parse_words fault
 refusal_words (Elab fault) = elab_words fault
 
 -- the line of a refusal
 abbrev pub refusal_line : Refusal → List ℕ
 refusal_line refusal = codes "refused input: " ++ (refusal_words refusal ++ codes "\n")
-
--- the refusal that a reader's fault is
-abbrev pub Refuses : ReadFault → Refusal → Type 0
-Refuses read.Read refusal = ⊥
-Refuses read.TooLong refusal = refusal ≡ TooLong
-Refuses (read.Lex fault) refusal = (flaw : TextFault) × IsFlawOf flaw fault × (refusal ≡ Broken flaw)
-Refuses (read.Parse (grammar.Unreadable line)) refusal = refusal ≡ Broken (record { line = line; flaw = Unreadable })
-Refuses (read.Parse grammar.NoMemory) refusal = ⊥
-Refuses (read.Elab fault) refusal = refusal ≡ Elab fault
-Refuses read.NoMemory refusal = ⊥

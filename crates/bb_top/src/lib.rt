@@ -6,33 +6,21 @@
 //!   netlist by the module's first fault.
 //! - Each other answer comes by its own cause, and only a write that failed leaves a file changed.
 //!
-//! `specs/Thin.antt` says what the thin netlist is, `specs/Normal.antt` what running alike means, `specs/Words.antt` what words
-//! mean, `specs/Texts.antt` what breaks a text, `specs/Reads.antt` which texts are read and what is made of one,
-//! `specs/Refusals.antt` how refusals are put, and `specs/Ends.antt` how a call may end.
+//! `specs/Reads.antt` says which texts are read and what is made of one, `specs/Refusals.antt` how refusals are put, and
+//! `specs/Ends.antt` how a call may end. What words mean stands in `bb_read`, what a text denotes in `bb_elab`, and what the thin
+//! netlist is in `bb_thin`.
 #![tactic(auto)]
 
-#[cfg(test)]
-mod benchmark;
 mod laws;
-mod layout;
 mod make;
 mod named;
-mod names;
-mod read;
 mod refusal;
-mod rows;
-#[cfg(test)]
-mod tests;
-mod text;
-mod thin;
 mod top;
-mod weave;
-mod wire;
-mod words;
-mod write;
 
-pub use laws::{one_flaw, one_outcome_of, ordered_netlists_run, runs_alike};
-pub use named::{ReadFault, read_named};
+pub use bb_grammar::one_flaw;
+pub use bb_read::ReadFault;
+pub use bb_thin::{ordered_netlists_run, runs_alike};
+pub use laws::one_outcome_of;
+pub use named::read_named;
 pub use refusal::Refusal;
-pub use text::{Flaw, TextFault};
 pub use top::bilbo;

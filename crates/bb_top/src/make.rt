@@ -1,10 +1,10 @@
 ghost use Rattle.std.specs.Prelude.{◌≡◌, ℕ, List, IfOk};
-ghost use Rattle.bb_top.specs.Reads.{IsFew, IsReadable, IsMade};
+ghost use Rattle.bb_thin.specs.Woven.{IsFew};
+ghost use Rattle.bb_top.specs.Reads.{IsReadable, IsMade};
 
-use crate::laws::{ordered_netlists_run, runs_alike};
-use crate::thin::weave_thin;
 use bb_net::Named as NamedNetlist;
-use bb_print::print;
+use bb_spell::append_text;
+use bb_thin::{ordered_netlists_run, runs_alike, weave_thin};
 use std::alloc::{AllocError, Global};
 
 /// What is made of the text that denotes this netlist.
@@ -16,7 +16,7 @@ pub(crate) fn make(alloc: Global, named: &NamedNetlist) -> Result<Vec<u8>, Alloc
     // `variables` ensures that it is a named netlist.
     let _count = woven.variables();
     let mut made = Vec::new(alloc);
-    print(alloc, &woven, &mut made)?;
+    append_text(alloc, &woven, &mut made)?;
     runs_alike();
     ordered_netlists_run();
     Ok(made)

@@ -4,52 +4,19 @@ ghost use Rattle.std.specs.Prelude.{◌≡◌, ◌<◌, ◌≤◌, ℕ, List, le
 ghost use Rattle.bb_edge.specs.Causes.{Rose};
 ghost use Rattle.bb_edge.specs.Told.{Held};
 ghost use Rattle.bb_lex.specs.declared.fault.LexFault.{LexFault as LexValue};
-ghost use Rattle.bb_net.specs.Order.{IsOrder};
+ghost use Rattle.bb_netlist.specs.Order.{IsOrder};
 ghost use Rattle.bb_parse.specs.declared.fault.ParseFault.{ParseFault as ParseValue};
-ghost use Rattle.bb_elab.specs.declared.fault.ElabFault.{ElabFault as ElabValue};
-ghost use Rattle.bb_elab.specs.Variables.{bit_count, limit_of};
-ghost use Rattle.bb_print.specs.Elaborated.{ElaboratesTo};
-ghost use Rattle.bb_top.specs.Texts.{HasLexFault, HasParseFault, reader_fault};
+ghost use Rattle.bb_fault.specs.declared.fault.ElabFault.{ElabFault as ElabValue};
+ghost use Rattle.bb_base.specs.Variables.{bit_count, limit_of};
+ghost use Rattle.bb_parse.specs.Texts.{HasLexFault, HasParseFault};
+ghost use Rattle.bb_elab.specs.Denotes.{ElaboratesTo};
 
-use crate::read::{WholeFault, read_whole};
-use crate::text::{Flaw, TextFault, module_in};
 use bb_edge::Store;
-use bb_elab::{ElabFault, counted_nets_are_made, elaborate};
-use bb_lex::LexFault;
+use bb_elab::{counted_nets_are_made, elaborate};
+use bb_fault::ElabFault;
 use bb_net::{Named, Order};
-use bb_parse::ParseFault;
+use bb_read::{ReadFault, module_in, read_whole};
 use std::alloc::Global;
-
-/// Why a file gives no named netlist.
-#[derive(Drop)]
-pub enum ReadFault {
-    /// The store failed.
-    Read,
-    /// More bytes come than the limit.
-    TooLong,
-    /// The first thing in the text that is no token.
-    Lex(LexFault),
-    /// The first place in the text at which no module goes on.
-    Parse(ParseFault),
-    /// The first fault of the text's module.
-    Elab(ElabFault),
-    /// Memory ran out.
-    NoMemory,
-}
-
-/// What is answered of a text's first flaw.
-fn fault_of(fault: TextFault) -> ReadFault
-    ensures { result ≡ reader_fault fault.flaw fault.line }
-{
-    let line = fault.line;
-    match fault.flaw {
-        Flaw::BadByte => ReadFault::Lex(LexFault::BadByte { line }),
-        Flaw::BadNumber => ReadFault::Lex(LexFault::BadNumber { line }),
-        Flaw::LongName => ReadFault::Lex(LexFault::LongName { line }),
-        Flaw::OpenComment => ReadFault::Lex(LexFault::OpenComment { line }),
-        Flaw::Unreadable => ReadFault::Parse(ParseFault::Unreadable { line }),
-    }
-}
 
 /// The named netlist that a text denotes, and the order of its gates, or the text's first fault.
 fn named_in(alloc: Global, text: &[u8], own: bool) -> Result<(Named, Order), ReadFault>
@@ -63,11 +30,7 @@ fn named_in(alloc: Global, text: &[u8], own: bool) -> Result<(Named, Order), Rea
     ensures no_length { IsErrOf result ReadFault.TooLong → ⊥ }
 {
     counted_nets_are_made();
-    let syntax = match module_in(alloc, text) {
-        Ok(Ok(syntax)) => syntax,
-        Ok(Err(flaw)) => return Err(fault_of(flaw)),
-        Err(_) => return Err(ReadFault::NoMemory),
-    };
+    let syntax = module_in(alloc, text)?;
     match elaborate(alloc, &syntax, own) {
         Ok(found) => Ok(found),
         Err(ElabFault::NoMemory) => Err(ReadFault::NoMemory),
@@ -102,11 +65,6 @@ pub fn read_named<S: Store>(
     ensures writing { S.writing store.new ≡ S.writing store.old }
     ensures write_faults { S.write_faults store.new ≡ S.write_faults store.old }
 {
-    let text = match read_whole(alloc, store, name, limit) {
-        Ok(text) => text,
-        Err(WholeFault::Read) => return Err(ReadFault::Read),
-        Err(WholeFault::TooLong) => return Err(ReadFault::TooLong),
-        Err(WholeFault::NoMemory) => return Err(ReadFault::NoMemory),
-    };
+    let text = read_whole(alloc, store, name, limit)?;
     named_in(alloc, &text, own)
 }

@@ -1,14 +1,14 @@
 //! Why an input is refused, and the line that says so.
 
 ghost use Rattle.std.specs.Prelude.{◌≡◌, ◌++◌, IfOk, OnOk, decimal, codes};
-ghost use Rattle.bb_print.specs.Spelling.{spelled_index};
-ghost use Rattle.bb_top.specs.Texts.{flaw_words};
-ghost use Rattle.bb_top.specs.Refusals.{said_name, said, at_line, elab_words, refusal_words, refusal_line};
+ghost use Rattle.bb_spell.specs.Spelling.{spelled_index};
+ghost use Rattle.bb_top.specs.Refusals.{said_name, said, at_line, lex_words, parse_words, elab_words, refusal_words, refusal_line};
 
-use crate::text::{Flaw, TextFault};
-use bb_elab::ElabFault;
+use bb_fault::ElabFault;
+use bb_lex::LexFault;
 use bb_net::Name;
-use bb_print::stands_plain;
+use bb_parse::ParseFault;
+use bb_spell::stands_plain;
 use std::alloc::{AllocError, Global};
 
 /// Why an input is refused.
@@ -16,23 +16,12 @@ use std::alloc::{AllocError, Global};
 pub enum Refusal {
     /// It has more bytes than are read.
     TooLong,
-    /// It is no module's text.
-    Broken(TextFault),
+    /// The first thing in it that is no token.
+    Lex(LexFault),
+    /// The first place in it at which no module goes on.
+    Parse(ParseFault),
     /// Its module denotes no netlist.
     Elab(ElabFault),
-}
-
-/// The words of a flaw.
-fn words_of(flaw: Flaw) -> &'static str
-    ensures { result.now ≡ flaw_words flaw }
-{
-    match flaw {
-        Flaw::BadByte => "bad byte",
-        Flaw::BadNumber => "bad number",
-        Flaw::LongName => "long name",
-        Flaw::OpenComment => "open comment",
-        Flaw::Unreadable => "unreadable",
-    }
 }
 
 /// Appends a number in decimal digits.
@@ -193,15 +182,37 @@ fn put_fault(alloc: Global, line: &mut Vec<u8>, fault: &ElabFault) -> Result<(),
     }
 }
 
+/// Appends the words of a lexical fault.
+fn put_lex_fault(alloc: Global, line: &mut Vec<u8>, fault: LexFault) -> Result<(), AllocError>
+    ensures { OnOk result (line.new.items ≡ line.old.items ++ lex_words fault) }
+{
+    match fault {
+        LexFault::BadByte { line: number } => put_at_line(alloc, line, number, b"bad byte"),
+        LexFault::BadNumber { line: number } => put_at_line(alloc, line, number, b"bad number"),
+        LexFault::LongName { line: number } => put_at_line(alloc, line, number, b"long name"),
+        LexFault::OpenComment { line: number } => put_at_line(alloc, line, number, b"open comment"),
+        LexFault::NoMemory => Err(AllocError),
+    }
+}
+
+/// Appends the words of a fault of the grammar.
+fn put_parse_fault(alloc: Global, line: &mut Vec<u8>, fault: ParseFault) -> Result<(), AllocError>
+    ensures { OnOk result (line.new.items ≡ line.old.items ++ parse_words fault) }
+{
+    match fault {
+        ParseFault::Unreadable { line: number } => put_at_line(alloc, line, number, b"unreadable"),
+        ParseFault::NoMemory => Err(AllocError),
+    }
+}
+
 /// Appends the words of a refusal.
 fn put_words(alloc: Global, line: &mut Vec<u8>, refusal: &Refusal) -> Result<(), AllocError>
     ensures { OnOk result (line.new.items ≡ line.old.items ++ refusal_words refusal.now) }
 {
     match refusal {
         Refusal::TooLong => line.extend_from_slice(b"too long"),
-        Refusal::Broken(fault) => {
-            put_at_line(alloc, line, fault.line, words_of(fault.flaw).as_bytes())
-        }
+        Refusal::Lex(fault) => put_lex_fault(alloc, line, *fault),
+        Refusal::Parse(fault) => put_parse_fault(alloc, line, *fault),
         Refusal::Elab(fault) => put_fault(alloc, line, fault),
     }
 }

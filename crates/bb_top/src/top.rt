@@ -3,21 +3,19 @@ ghost use Rattle.std.specs.Option.{ForSome};
 ghost use Rattle.bb_net.specs.Named.{Named};
 ghost use Rattle.bb_edge.specs.Causes.{Rose};
 ghost use Rattle.bb_edge.specs.Told.{Held, AppendsAll};
-ghost use Rattle.bb_top.specs.Words.{command_of, output_name, Command as CommandValue};
+ghost use Rattle.bb_read.specs.Words.{command_of, output_name, Command as CommandValue};
 ghost use Rattle.bb_top.specs.Reads.{IsReadable, IsMade};
 ghost use Rattle.bb_top.specs.declared.refusal.Refusal.{Refusal as RefusalValue};
-ghost use Rattle.bb_top.specs.Refusals.{Refuses, refusal_line};
+ghost use Rattle.bb_top.specs.Refusals.{fault_in, refusal_line};
 ghost use Rattle.bb_top.specs.Ends.{IsRefused, IsDone, IsRefusal, IsUnwritten, IsUnsaid, file_limit, usage_line, done_line};
 
-use crate::laws::{one_flaw, one_outcome_of};
+use crate::laws::one_outcome_of;
 use crate::make::make;
-use crate::named::{ReadFault, read_named};
+use crate::named::read_named;
 use crate::refusal::{Refusal, line_of};
-use crate::text::{Flaw, TextFault, flaw_of};
-use crate::words::{Command, command_in};
-use crate::write::write_whole;
 use bb_edge::{Failed, Sink, Store};
-use bb_parse::ParseFault;
+use bb_grammar::one_flaw;
+use bb_read::{Command, ReadFault, command_in, write_whole};
 use std::alloc::Global;
 
 /// The most bytes of the input.
@@ -33,23 +31,15 @@ enum Stop {
 /// What stops a call by a fault of reading.
 fn stop_of(fault: ReadFault) -> Stop
     ensures read { result ≡ Stop.Read → fault ≡ ReadFault.Read }
-    ensures refused { (refusal : RefusalValue) → result ≡ Stop.Refused refusal → Refuses fault refusal }
+    ensures refused { (refusal : RefusalValue) → result ≡ Stop.Refused refusal → fault ≡ fault_in refusal }
 {
     match fault {
         ReadFault::Read => Stop::Read,
         ReadFault::TooLong => Stop::Refused(Refusal::TooLong),
-        ReadFault::Lex(fault) => match flaw_of(fault) {
-            Ok(flaw) => Stop::Refused(Refusal::Broken(flaw)),
-            Err(_) => Stop::NoMemory,
-        },
-        ReadFault::Parse(ParseFault::Unreadable { line }) => {
-            Stop::Refused(Refusal::Broken(TextFault {
-                line,
-                flaw: Flaw::Unreadable,
-            }))
-        }
+        ReadFault::Lex(fault) => Stop::Refused(Refusal::Lex(fault)),
+        ReadFault::Parse(fault) => Stop::Refused(Refusal::Parse(fault)),
         ReadFault::Elab(fault) => Stop::Refused(Refusal::Elab(fault)),
-        ReadFault::Parse(ParseFault::NoMemory) | ReadFault::NoMemory => Stop::NoMemory,
+        ReadFault::NoMemory => Stop::NoMemory,
     }
 }
 

@@ -2,7 +2,7 @@ use Rattle.std.proofs.Common.{◌≡◌, ◌<◌, length, map, ap, sym, ◌∙�
 use Rattle.std.specs.List.{AllByRecursion}
 use Rattle.bb_code.specs.Segments.{listing}
 use Rattle.bb_code.specs.Listings.{at_places}
-use Rattle.bb_code.specs.Columns.{AreAllColumns, IsStuck}
+use Rattle.bb_code.specs.Columns.{AreAllColumns, IsStuckSource}
 use Rattle.bb_code.proofs.OneChoice.{columns_more, stuck_here, stuck_once, none_past_stuck, segments_independent}
 use Rattle.bb_code.proofs.Bound.{stuck_bound}
 use Rattle.bb_code.proofs.Turning.{places_of}
@@ -26,7 +26,7 @@ returns-in-None-clause-stuck c = λ source e.
     let segments = map (λ segment. segment.items) c.args.segments.now in
     let stuck = stuck_here c.args.degree segments c.loop-source.source c.loop-source.columns.items c.deref-in-loop-source.result.now c.in_ok-column.field-0 c.loop-source.invariant c.deref-in-loop-source.ensures.value c.in_ok-column.ensures c.in-None.is in
     let same : c.loop-source.source ≡ source = cc in
-    (subst (λ s. s < c.args.sources) same c.loop-source-test.true, subst (IsStuck c.args.degree segments) same stuck)
+    (subst (λ s. s < c.args.sources) same c.loop-source-test.true, subst (IsStuckSource c.args.degree segments) same stuck)
 
 pub returns-in-None-clause-only : goal.returns-in-None-clause-only
 returns-in-None-clause-only c = λ source lt other no_memory.

@@ -1,6 +1,6 @@
 use Rattle.std.proofs.Common.{◌≡◌, ℕ, ◌≤◌, ◌^◌, ◌*◌, ◌%◌, inr, Err, map, ap, subst, refl, arith}
 use Rattle.std.proofs.Math.Nat.{pow-le-pow_right}
-use Rattle.bb_gf2.specs.Span.{IsLeast}
+use Rattle.bb_base.specs.Firsts.{IsLeast}
 use Rattle.bb_code.specs.Degree.{IsFitting}
 use Rattle.bb_code.specs.declared.fault.Need.TheVariants.{Cells, Source}
 use Rattle.bb_code.proofs.Bound.{stuck_bound, stuck_listed}

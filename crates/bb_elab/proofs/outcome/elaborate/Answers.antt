@@ -2,9 +2,9 @@ use Rattle.std.proofs.Common.{◌≡◌, ◌≢◌, sym, subst, IfErr, OnOk, IfO
 use Rattle.std.specs.Result.{IsErrAnd}
 use Rattle.std.specs.Prelude.{Result}
 use Rattle.bb_net.specs.Named.{IsNamed}
-use Rattle.bb_elab.specs.declared.fault.ElabFault.{ElabFault}
-use Rattle.bb_elab.specs.declared.fault.ElabFault.TheVariants.{NoMemory}
-use Rattle.bb_elab.specs.Text.{text_fault}
+use Rattle.bb_fault.specs.declared.fault.ElabFault.{ElabFault}
+use Rattle.bb_fault.specs.declared.fault.ElabFault.TheVariants.{NoMemory}
+use Rattle.bb_width.specs.Text.{text_fault}
 use Rattle.bb_elab.specs.Outcome.{IsOutcome, net_fault, variables_in, work_in, denoted}
 use Rattle.bb_elab.proofs.LoopLaws.{refused}
 use Rattle.bb_elab.proofs.outcome.elaborate.Goals as goal

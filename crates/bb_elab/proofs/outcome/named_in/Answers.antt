@@ -1,7 +1,7 @@
 use Rattle.std.proofs.Common.{sym, subst, All}
-use Rattle.bb_net.specs.Bits.{IsEntry}
-use Rattle.bb_elab.specs.Within.{IsWithin}
-use Rattle.bb_elab.specs.Assembling.{ArePortsFirst}
+use Rattle.bb_base.specs.Variables.{IsEntry}
+use Rattle.bb_drive.specs.Within.{IsWithin}
+use Rattle.bb_assemble.specs.Assembling.{ArePortsFirst}
 use Rattle.bb_elab.proofs.PortLaws.{fine_text, all_entries, ports_stand_first}
 use Rattle.bb_elab.proofs.WithinLaws.{work_within}
 use Rattle.bb_elab.proofs.outcome.named_in.Goals as goal

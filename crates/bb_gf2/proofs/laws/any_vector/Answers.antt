@@ -1,6 +1,6 @@
 use Rattle.bb_gf2.proofs.Pairing.{duals_from_least}
 use Rattle.bb_gf2.proofs.Existence.{duals_exist, independent, state_codes, duals_below, combined_below}
-use Rattle.bb_gf2.specs.Bits.{value}
+use Rattle.bb_gf2.specs.Bits.{from_bits}
 use Rattle.bb_gf2.proofs.laws.any_vector.Goals as goal
 
 pub returns-clause-independent : goal.returns-clause-independent
@@ -19,4 +19,4 @@ pub returns-clause-below : goal.returns-clause-below
 returns-clause-below c = duals_below
 
 pub returns-clause-state_below : goal.returns-clause-state_below
-returns-clause-state_below c = λ k wanted. combined_below k (value wanted)
+returns-clause-state_below c = λ k wanted. combined_below k (from_bits wanted)

@@ -1,5 +1,5 @@
 use Rattle.std.proofs.Common.{◌≡◌, ◌++◌, ◌∷◌, []}
-use Rattle.bb_net.specs.Bits.{bit_at}
+use Rattle.bb_base.specs.Variables.{bit_at}
 use Rattle.bb_net.proofs.PlaceLemmas.{bits_more, bit_pushed, still_earlier}
 use Rattle.bb_net.proofs.builder.add_places.Goals as goal
 

@@ -1,5 +1,5 @@
 use Rattle.std.proofs.Common.{◌≡◌, ◌∙◌, true, ap, rules, ◌-◌}
-use Rattle.bb_net.specs.Bits.{is_port}
+use Rattle.bb_base.specs.Variables.{is_port}
 use Rattle.bb_net.proofs.PlaceLemmas.{port_count, clocked_count}
 use Rattle.bb_net.proofs.builder.net_count.Goals as goal
 

@@ -1,6 +1,6 @@
 use Rattle.std.proofs.Common.{◌∙◌, ap, ◌++◌}
 use Rattle.bb_net.specs.Named.{design_of}
-use Rattle.bb_print.specs.Canonical.{canonical_text}
+use Rattle.bb_spell.specs.Canonical.{canonical_text}
 use Rattle.bb_top.proofs.make.make.Goals as goal
 
 pub returns : goal.returns
@@ -12,5 +12,5 @@ returns c = λ text readable. record {
   named = c.variables-count.ensures.named;
   woven = c.in_ok-woven.ensures;
   alike = c.runs_alike.ensures c.args.named.now c.in_ok-woven.woven readable.outcome.2 c.variables-count.ensures.named c.in_ok-woven.ensures;
-  spelled = c.in_ok-print.ensures.ok ∙ ap (λ z. z ++ canonical_text (design_of c.in_ok-woven.woven)) c.new-made.ensures.items;
+  spelled = c.in_ok-append_text.ensures.ok ∙ ap (λ z. z ++ canonical_text (design_of c.in_ok-woven.woven)) c.new-made.ensures.items;
 }

@@ -1,6 +1,6 @@
 use Rattle.std.proofs.Common.{rules, ◌≡◌, ◌∙◌, map, Some, string_bytes, ap, sym, subst, refl, inl, inr}
 use Rattle.bb_edge.specs.Causes.{Rose}
-use Rattle.bb_top.specs.Words.{output_name, command_of, Command}
+use Rattle.bb_read.specs.Words.{output_name, command_of, Command}
 use Rattle.bb_edge.specs.Told.{AppendsFront}
 use Rattle.bb_top.specs.Refusals.{refusal_line}
 use Rattle.bb_top.specs.Reads.{IsMade}
@@ -35,7 +35,7 @@ returns-in-Ok-put-clause-complete g c = λ d text a meant held small readable.
     let known : command_of (map (λ w. string_bytes w) c.args.words.now) ≡ Some command = search rules in
     let same : d ≡ command = same_command (map (λ w. string_bytes w) c.args.words.now) d command meant known in
     let here = ap (λ (k : Command). g.S.Store.holds c.args.store.now k.input) (sym same) ∙ held in
-    let never = refused_unreadable c.one_flaw.ensures.unbroken c.one_outcome_of.ensures c.in-Err-Refused.refusal text a
+    let never = refused_unreadable c.one_flaw.ensures.no_lex_fault c.one_flaw.ensures.no_parse_fault c.one_outcome_of.ensures c.in-Err-Refused.refusal text a
     (c.in-Err-Refused.ensures.refused c.in-Err-Refused.refusal (search rules) text here) small readable in
     absurd never
 
@@ -46,7 +46,7 @@ returns-in-Ok-put-2-clause-always_refused g c = λ d text refusal meant held ref
     let same : d ≡ command = same_command (map (λ w. string_bytes w) c.args.words.now) d command meant known in
     let here = ap (λ (k : Command). g.S.Store.holds c.args.store.now k.input) (sym same) ∙ held in
     let made = c.in-Ok-prepare.ensures.made text here in
-    absurd (refused_unreadable c.one_flaw.ensures.unbroken c.one_outcome_of.ensures refusal text made.1.original refused made.0 made.1.readable)
+    absurd (refused_unreadable c.one_flaw.ensures.no_lex_fault c.one_flaw.ensures.no_parse_fault c.one_outcome_of.ensures refusal text made.1.original refused made.0 made.1.readable)
 
 pub returns-in-Err-write_whole-clause-write : goal.returns-in-Err-write_whole-clause-write
 returns-in-Err-write_whole-clause-write g c =

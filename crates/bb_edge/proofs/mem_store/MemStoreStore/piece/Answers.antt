@@ -1,7 +1,7 @@
 use Rattle.std.proofs.Common.{◌≡◌, ◌+◌, ◌++◌, ℕ, List, Option, length, min, drop, take, IfSome, ap, subst, sym, ◌∙◌}
 use Rattle.std.proofs.lemmas.List.{drop-drop}
 use Rattle.bb_edge.specs.Told.{Told, Left}
-use Rattle.bb_edge.specs.Files.{IsPlace, text_of, bytes_at}
+use Rattle.bb_edge.specs.Files.{IsPlace, told_text, bytes_at}
 use Rattle.bb_edge.specs.Memory.{reading_of}
 use Rattle.bb_edge.specs.declared.files.Place.{Place}
 use Rattle.bb_edge.proofs.MemoryLemmas.{gives, held-at, rest-at}
@@ -25,5 +25,5 @@ returns-in-Some-clause-bytes c = λ rest left.
     let is_place : IsPlace s.files place.file = subst (λ (r : Option Place). IfSome r (λ p. IsPlace s.files p.file)) c.in-Some.is c.self.invariant.reading_first in
     let behind : drop place.given (bytes_at s.files place.file) ≡ rest = rest-at s.files s.reading place rest c.in-Some.is c.self.invariant.reading_first (ap reading_of c.self.view_is ∙ left) in (
       gives rest c.args.buf.now c.give-count.new.buf given c.requires.room counts.0 counts.1,
-      ap Left (ap (λ (t : Told). drop (place.given + given) (text_of t)) (held-at s.files place.file is_place) ∙ sym (drop-drop given place.given (bytes_at s.files place.file)) ∙ ap (drop given) behind),
+      ap Left (ap (λ (t : Told). drop (place.given + given) (told_text t)) (held-at s.files place.file is_place) ∙ sym (drop-drop given place.given (bytes_at s.files place.file)) ∙ ap (drop given) behind),
     )

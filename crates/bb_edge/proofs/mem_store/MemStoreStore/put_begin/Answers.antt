@@ -1,7 +1,7 @@
 use Rattle.std.proofs.Common.{List, [], subst, sym, ap, ◌∙◌, refl}
 use Rattle.bb_edge.specs.Told.{Shows}
 use Rattle.bb_edge.specs.Files.{FileValue, held}
-use Rattle.bb_edge.specs.Calls.{counted}
+use Rattle.bb_edge.specs.Calls.{with_call}
 use Rattle.bb_edge.specs.Memory.{Memory}
 use Rattle.bb_edge.specs.declared.schedule.Step.TheVariants.{PutBegin}
 use Rattle.bb_edge.proofs.FileLemmas.{held-with_file, held-with_file-other}
@@ -17,8 +17,8 @@ invariant_of-self-in-Ok c = record {
 pub returns-in-Ok-clause-ok : goal.returns-in-Ok-clause-ok
 returns-in-Ok-clause-ok c =
     let s = c.self.inside in
-    memory-started c.args.name.now s.files c.start.new.self c.in-Ok.file s.reading s.writing s.schedule c.count.new.self (counted PutBegin c.args.self.now.calls) s.read_faults s.write_faults c.args.self.now
-    c.in-Ok.ensures.ok c.in-Ok.ensures.place c.self.invariant (c.count.ensures.counted ∙ ap (λ (m : Memory). counted PutBegin m.calls) c.self.view_is) c.self.view_is
+    memory-started c.args.name.now s.files c.start.new.self c.in-Ok.file s.reading s.writing s.schedule c.count.new.self (with_call PutBegin c.args.self.now.calls) s.read_faults s.write_faults c.args.self.now
+    c.in-Ok.ensures.ok c.in-Ok.ensures.place c.self.invariant (c.count.ensures.counted ∙ ap (λ (m : Memory). with_call PutBegin m.calls) c.self.view_is) c.self.view_is
 
 pub returns-in-Ok-clause-emptied : goal.returns-in-Ok-clause-emptied
 returns-in-Ok-clause-emptied c =

@@ -1,5 +1,5 @@
 use Rattle.std.proofs.Common.{◌≡◌, ◌++◌, ◌∷◌, [], length, rules}
-use Rattle.bb_net.specs.Net.{IsArity}
+use Rattle.bb_base.specs.Operators.{IsArity}
 use Rattle.bb_net.proofs.ConsistentLemmas.{gate_added}
 use Rattle.bb_net.proofs.builder.Builder.gate.Goals as goal
 

@@ -1,0 +1,131 @@
+use Rattle.std.proofs.Common.{◌≡◌, ℕ, All, List, length, map, filter, ap, sym, subst, ◌∙◌}
+use Rattle.bb_netlist.specs.Net.{Gate, Flop, renamed_gate}
+use Rattle.bb_net.specs.Named.{Named, IsNamed}
+use Rattle.bb_drive.specs.Work.{Work}
+use Rattle.bb_drive.specs.Nets.{bit_name}
+use Rattle.bb_assemble.specs.NamedOf.{kept, named_of}
+use Rattle.bb_drive.specs.Within.{IsGateWithin}
+use Rattle.bb_assemble.specs.Assembling.{number_for, is_kept, numbered_flop}
+use Rattle.bb_drive.specs.Origins.{is_marked}
+use Rattle.bb_assemble.proofs.BuiltLaws.{AreFlags, same_flags, flags_long, all_below, all_few, IsNumbered, numbered, keeps_ports, names_kept, names_count, HasParts, parts_of, built, clocked}
+use Rattle.bb_assemble.proofs.assembly.assemble.Goals as goal
+
+pub numbers_of-requires-clause-within : goal.numbers_of-requires-clause-within
+numbers_of-requires-clause-within c = all_below c.args.vars.entries c.args.work.now c.args.bits.now c.work.inside.fresh c.requires.nets (ap (λ (w : Work). w.fresh) c.work.view_is)
+
+pub numbers_of-requires-clause-few : goal.numbers_of-requires-clause-few
+numbers_of-requires-clause-few c = all_few c.args.vars.entries c.args.work.now c.args.bits.now c.work.inside.fresh c.requires.nets (ap (λ (w : Work). w.fresh) c.work.view_is)
+
+pub numbers_of-requires-clause-flags : goal.numbers_of-requires-clause-flags
+numbers_of-requires-clause-flags c =
+    let flags : AreFlags c.args.work.now c.as_slice-flags.result.now = same_flags c.args.work.now c.args.clock.now.data.items c.as_slice-flags.result.now c.requires.data c.as_slice-flags.ensures.value in
+    flags_long c.args.work.now c.as_slice-flags.result.now c.work.inside.fresh flags (ap (λ (w : Work). w.fresh) c.work.view_is)
+
+pub add_variables-requires-clause-ports : goal.add_variables-requires-clause-ports
+add_variables-requires-clause-ports c =
+    let flags : AreFlags c.args.work.now c.as_slice-flags.result.now = same_flags c.args.work.now c.args.clock.now.data.items c.as_slice-flags.result.now c.requires.data c.as_slice-flags.ensures.value in
+    let fresh : c.work.inside.fresh ≡ c.args.work.now.fresh = ap (λ (w : Work). w.fresh) c.work.view_is in
+    let numbers : IsNumbered c.args.vars.entries c.args.work.now c.as_slice-numbers.result.now c.in_ok-nets.count =
+    numbered c.args.vars.entries c.args.work.now c.work.inside.fresh c.args.bits.now c.as_slice-flags.result.now c.in_ok-nets.nets.items c.as_slice-numbers.result.now c.in_ok-nets.count c.in_ok-nets.ensures c.as_slice-numbers.ensures.value fresh
+    c.requires.nets flags in
+    keeps_ports c.args.vars.entries c.args.work.now c.args.clock.now.bit c.as_slice-numbers.result.now c.in_ok-nets.count c.requires.driven c.requires.clocked c.requires.within c.requires.clock numbers
+
+pub add_gates-requires-clause-names : goal.add_gates-requires-clause-names
+add_gates-requires-clause-names c =
+    let flags : AreFlags c.args.work.now c.as_slice-flags.result.now = same_flags c.args.work.now c.args.clock.now.data.items c.as_slice-flags.result.now c.requires.data c.as_slice-flags.ensures.value in
+    let fresh : c.work.inside.fresh ≡ c.args.work.now.fresh = ap (λ (w : Work). w.fresh) c.work.view_is in
+    let numbers : IsNumbered c.args.vars.entries c.args.work.now c.as_slice-numbers.result.now c.in_ok-nets.count =
+    numbered c.args.vars.entries c.args.work.now c.work.inside.fresh c.args.bits.now c.as_slice-flags.result.now c.in_ok-nets.nets.items c.as_slice-numbers.result.now c.in_ok-nets.count c.in_ok-nets.ensures c.as_slice-numbers.ensures.value fresh
+    c.requires.nets flags in
+    let names : c.add_variables.new.builder.names ≡ map (bit_name 0 c.args.vars.entries) (kept c.args.vars.entries c.args.work.now) =
+    names_kept c.args.vars.entries c.add_variables.new.builder.variables c.args.work.now c.add_variables.new.builder.names c.as_slice-numbers.result.now c.in_ok-nets.count numbers c.in_ok-add_variables.ensures.variables c.in_ok-add_variables.ensures.total
+    c.in_ok-add_variables.ensures.stands.names in
+    names_count c.args.vars.entries c.args.work.now c.add_variables.new.builder.names c.as_slice-numbers.result.now c.in_ok-nets.count numbers names
+
+pub add_gates-requires-clause-within : goal.add_gates-requires-clause-within
+add_gates-requires-clause-within c =
+    let flags : AreFlags c.args.work.now c.as_slice-flags.result.now = same_flags c.args.work.now c.args.clock.now.data.items c.as_slice-flags.result.now c.requires.data c.as_slice-flags.ensures.value in
+    let fresh : c.work.inside.fresh ≡ c.args.work.now.fresh = ap (λ (w : Work). w.fresh) c.work.view_is in
+    let numbers : IsNumbered c.args.vars.entries c.args.work.now c.as_slice-numbers.result.now c.in_ok-nets.count =
+    numbered c.args.vars.entries c.args.work.now c.work.inside.fresh c.args.bits.now c.as_slice-flags.result.now c.in_ok-nets.nets.items c.as_slice-numbers.result.now c.in_ok-nets.count c.in_ok-nets.ensures c.as_slice-numbers.ensures.value fresh
+    c.requires.nets flags in
+    let gates : c.deref.result.now ≡ c.args.work.now.gates = c.deref.ensures.value ∙ ap (λ (w : Work). w.gates) c.work.view_is in
+    subst (λ n. All (IsGateWithin n) c.deref.result.now) (sym numbers.long) (subst (All (IsGateWithin c.args.work.now.fresh)) (sym gates) c.requires.within.gates)
+
+pub add_gates-requires-clause-flags : goal.add_gates-requires-clause-flags
+add_gates-requires-clause-flags c =
+    let flags : AreFlags c.args.work.now c.as_slice-flags.result.now = same_flags c.args.work.now c.args.clock.now.data.items c.as_slice-flags.result.now c.requires.data c.as_slice-flags.ensures.value in
+    let fresh : c.work.inside.fresh ≡ c.args.work.now.fresh = ap (λ (w : Work). w.fresh) c.work.view_is in
+    let numbers : IsNumbered c.args.vars.entries c.args.work.now c.as_slice-numbers.result.now c.in_ok-nets.count =
+    numbered c.args.vars.entries c.args.work.now c.work.inside.fresh c.args.bits.now c.as_slice-flags.result.now c.in_ok-nets.nets.items c.as_slice-numbers.result.now c.in_ok-nets.count c.in_ok-nets.ensures c.as_slice-numbers.ensures.value fresh
+    c.requires.nets flags in
+    flags_long c.args.work.now c.as_slice-flags.result.now (length c.as_slice-numbers.result.now) flags numbers.long
+
+pub add_flops-requires-clause-names : goal.add_flops-requires-clause-names
+add_flops-requires-clause-names c =
+    let flags : AreFlags c.args.work.now c.as_slice-flags.result.now = same_flags c.args.work.now c.args.clock.now.data.items c.as_slice-flags.result.now c.requires.data c.as_slice-flags.ensures.value in
+    let fresh : c.work.inside.fresh ≡ c.args.work.now.fresh = ap (λ (w : Work). w.fresh) c.work.view_is in
+    let numbers : IsNumbered c.args.vars.entries c.args.work.now c.as_slice-numbers.result.now c.in_ok-nets.count =
+    numbered c.args.vars.entries c.args.work.now c.work.inside.fresh c.args.bits.now c.as_slice-flags.result.now c.in_ok-nets.nets.items c.as_slice-numbers.result.now c.in_ok-nets.count c.in_ok-nets.ensures c.as_slice-numbers.ensures.value fresh
+    c.requires.nets flags in
+    let names : c.add_variables.new.builder.names ≡ map (bit_name 0 c.args.vars.entries) (kept c.args.vars.entries c.args.work.now) =
+    names_kept c.args.vars.entries c.add_variables.new.builder.variables c.args.work.now c.add_variables.new.builder.names c.as_slice-numbers.result.now c.in_ok-nets.count numbers c.in_ok-add_variables.ensures.variables c.in_ok-add_variables.ensures.total
+    c.in_ok-add_variables.ensures.stands.names in
+    names_count c.args.vars.entries c.args.work.now c.add_variables.new.builder.names c.as_slice-numbers.result.now c.in_ok-nets.count numbers names ∙ sym (ap (λ (n : Named). length n.names) c.in_ok-add_gates.ensures)
+
+pub finish-requires : goal.finish-requires
+finish-requires c =
+    let gates : List (Gate ℕ) = map (renamed_gate (number_for c.as_slice-numbers.result.now)) (filter (λ g. is_marked c.as_slice-flags.result.now g.out) c.deref.result.now) in
+    let flops : List (Flop ℕ) = map (numbered_flop (number_for c.as_slice-numbers.result.now)) c.deref-2.result.now in
+    let parts : HasParts c.args.name c.args.vars.entries c.args.clock.now.bit c.add_variables.new.builder.names gates flops c.add_flops.new.builder =
+    parts_of c.args.name c.args.vars.entries c.args.clock.now.bit (is_kept c.as_slice-numbers.result.now c.in_ok-nets.count) gates flops c.in_ok-builder.builder c.add_variables.new.builder c.add_gates.new.builder c.add_flops.new.builder
+    c.in_ok-builder.ensures c.in_ok-add_variables.ensures.variables c.in_ok-add_variables.ensures.stands c.in_ok-add_gates.ensures c.in_ok-add_flops.ensures in
+    let flops_in = c.deref-2.ensures.value ∙ ap (λ (w : Work). w.flops) c.work.view_is in
+    record {
+      clock = clocked c.args.name c.args.vars.entries c.args.work.now c.args.clock.now.bit c.add_variables.new.builder.names gates c.deref-2.result.now (number_for c.as_slice-numbers.result.now) c.add_flops.new.builder c.requires.clocked
+          c.requires.within c.requires.clock flops_in parts;
+    }
+
+pub returns-in-Ok-clause-named : goal.returns-in-Ok-clause-named
+returns-in-Ok-clause-named c =
+    let flags : AreFlags c.args.work.now c.as_slice-flags.result.now = same_flags c.args.work.now c.args.clock.now.data.items c.as_slice-flags.result.now c.requires.data c.as_slice-flags.ensures.value in
+    let fresh : c.work.inside.fresh ≡ c.args.work.now.fresh = ap (λ (w : Work). w.fresh) c.work.view_is in
+    let numbers : IsNumbered c.args.vars.entries c.args.work.now c.as_slice-numbers.result.now c.in_ok-nets.count =
+    numbered c.args.vars.entries c.args.work.now c.work.inside.fresh c.args.bits.now c.as_slice-flags.result.now c.in_ok-nets.nets.items c.as_slice-numbers.result.now c.in_ok-nets.count c.in_ok-nets.ensures c.as_slice-numbers.ensures.value fresh
+    c.requires.nets flags in
+    let names : c.add_variables.new.builder.names ≡ map (bit_name 0 c.args.vars.entries) (kept c.args.vars.entries c.args.work.now) =
+    names_kept c.args.vars.entries c.add_variables.new.builder.variables c.args.work.now c.add_variables.new.builder.names c.as_slice-numbers.result.now c.in_ok-nets.count numbers c.in_ok-add_variables.ensures.variables c.in_ok-add_variables.ensures.total
+    c.in_ok-add_variables.ensures.stands.names in
+    let gates : List (Gate ℕ) = map (renamed_gate (number_for c.as_slice-numbers.result.now)) (filter (λ g. is_marked c.as_slice-flags.result.now g.out) c.deref.result.now) in
+    let flops : List (Flop ℕ) = map (numbered_flop (number_for c.as_slice-numbers.result.now)) c.deref-2.result.now in
+    let parts : HasParts c.args.name c.args.vars.entries c.args.clock.now.bit c.add_variables.new.builder.names gates flops c.add_flops.new.builder =
+    parts_of c.args.name c.args.vars.entries c.args.clock.now.bit (is_kept c.as_slice-numbers.result.now c.in_ok-nets.count) gates flops c.in_ok-builder.builder c.add_variables.new.builder c.add_gates.new.builder c.add_flops.new.builder
+    c.in_ok-builder.ensures c.in_ok-add_variables.ensures.variables c.in_ok-add_variables.ensures.stands c.in_ok-add_gates.ensures c.in_ok-add_flops.ensures in
+    let flops_in = c.deref-2.ensures.value ∙ ap (λ (w : Work). w.flops) c.work.view_is in
+    let gates_in = c.deref.ensures.value ∙ ap (λ (w : Work). w.gates) c.work.view_is in
+    let same : c.add_flops.new.builder ≡ named_of c.args.name c.args.vars.entries c.args.work.now =
+    built c.args.name c.args.vars.entries c.args.work.now c.args.clock.now.bit c.as_slice-flags.result.now c.as_slice-numbers.result.now c.in_ok-nets.count c.deref.result.now c.deref-2.result.now c.add_variables.new.builder.names
+    c.add_flops.new.builder c.requires.driven c.requires.clocked c.requires.within c.requires.clock flags numbers c.in_ok-add_variables.ensures.total gates_in flops_in names parts c.in-Ok.ensures.valid in
+    c.in-Ok.ensures.named ∙ same
+
+pub returns-in-Ok-clause-valid : goal.returns-in-Ok-clause-valid
+returns-in-Ok-clause-valid c =
+    let flags : AreFlags c.args.work.now c.as_slice-flags.result.now = same_flags c.args.work.now c.args.clock.now.data.items c.as_slice-flags.result.now c.requires.data c.as_slice-flags.ensures.value in
+    let fresh : c.work.inside.fresh ≡ c.args.work.now.fresh = ap (λ (w : Work). w.fresh) c.work.view_is in
+    let numbers : IsNumbered c.args.vars.entries c.args.work.now c.as_slice-numbers.result.now c.in_ok-nets.count =
+    numbered c.args.vars.entries c.args.work.now c.work.inside.fresh c.args.bits.now c.as_slice-flags.result.now c.in_ok-nets.nets.items c.as_slice-numbers.result.now c.in_ok-nets.count c.in_ok-nets.ensures c.as_slice-numbers.ensures.value fresh
+    c.requires.nets flags in
+    let names : c.add_variables.new.builder.names ≡ map (bit_name 0 c.args.vars.entries) (kept c.args.vars.entries c.args.work.now) =
+    names_kept c.args.vars.entries c.add_variables.new.builder.variables c.args.work.now c.add_variables.new.builder.names c.as_slice-numbers.result.now c.in_ok-nets.count numbers c.in_ok-add_variables.ensures.variables c.in_ok-add_variables.ensures.total
+    c.in_ok-add_variables.ensures.stands.names in
+    let gates : List (Gate ℕ) = map (renamed_gate (number_for c.as_slice-numbers.result.now)) (filter (λ g. is_marked c.as_slice-flags.result.now g.out) c.deref.result.now) in
+    let flops : List (Flop ℕ) = map (numbered_flop (number_for c.as_slice-numbers.result.now)) c.deref-2.result.now in
+    let parts : HasParts c.args.name c.args.vars.entries c.args.clock.now.bit c.add_variables.new.builder.names gates flops c.add_flops.new.builder =
+    parts_of c.args.name c.args.vars.entries c.args.clock.now.bit (is_kept c.as_slice-numbers.result.now c.in_ok-nets.count) gates flops c.in_ok-builder.builder c.add_variables.new.builder c.add_gates.new.builder c.add_flops.new.builder
+    c.in_ok-builder.ensures c.in_ok-add_variables.ensures.variables c.in_ok-add_variables.ensures.stands c.in_ok-add_gates.ensures c.in_ok-add_flops.ensures in
+    let flops_in = c.deref-2.ensures.value ∙ ap (λ (w : Work). w.flops) c.work.view_is in
+    let gates_in = c.deref.ensures.value ∙ ap (λ (w : Work). w.gates) c.work.view_is in
+    let same : c.add_flops.new.builder ≡ named_of c.args.name c.args.vars.entries c.args.work.now =
+    built c.args.name c.args.vars.entries c.args.work.now c.args.clock.now.bit c.as_slice-flags.result.now c.as_slice-numbers.result.now c.in_ok-nets.count c.deref.result.now c.deref-2.result.now c.add_variables.new.builder.names
+    c.add_flops.new.builder c.requires.driven c.requires.clocked c.requires.within c.requires.clock flags numbers c.in_ok-add_variables.ensures.total gates_in flops_in names parts c.in-Ok.ensures.valid in
+    subst IsNamed same c.in-Ok.ensures.valid

@@ -1,0 +1,2 @@
+pub mod NamedOf
+pub mod Assembling

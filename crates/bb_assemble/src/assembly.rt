@@ -1,0 +1,301 @@
+//! The named netlist of what items make.
+//!
+//! Variables go into a builder in their order, each with the nets of its kept bits, so that a net's number is the place of its bit
+//! among the kept ones. A builder refuses nothing here, and no test on the way fails, since names differ, nets are few, each has its
+//! driver, and what a kept net reads is kept. That is argued and not proved, so a refusal would be answered as want of memory, the one
+//! answer that says nothing of the netlist.
+
+ghost use Rattle.std.specs.Prelude.{◌≡◌, ◌<◌, ◌≤◌, ◌+◌, ◌-◌, ◌^◌, ◌∷◌, [], IfOk, IfSome, OnOk, Some, None, ℕ, All, true, not, map, filter, length, slice_get};
+ghost use Rattle.std.specs.Option.{ForSome};
+ghost use Rattle.bb_base.specs.Variables.{IsEntry, IsRange, IsBit, is_port, is_input, range_width, bit_at, bit_count};
+ghost use Rattle.bb_netlist.specs.Net.{renamed_gate};
+ghost use Rattle.bb_net.specs.Named.{IsNamed};
+ghost use Rattle.bb_net.specs.Building.{MayClock, port_bits, with_gates, with_flops};
+ghost use Rattle.bb_drive.specs.Nets.{nets, driver_fault};
+ghost use Rattle.bb_drive.specs.Clock.{clock_of, clock_fault, is_data};
+ghost use Rattle.bb_assemble.specs.NamedOf.{named_of};
+ghost use Rattle.bb_drive.specs.Within.{IsWithin, IsGateWithin, IsFlopWithin};
+ghost use Rattle.bb_assemble.specs.Assembling.{ArePortsFirst, number_for, is_kept, is_clock_bit, bit_place, kept_bits, with_names, Adds, AreAdded, KeepsPorts, numbered_flop};
+ghost use Rattle.bb_drive.specs.Origins.{is_marked};
+
+use crate::numbers::{nets_of, numbers_of};
+use bb_base::{Name, Role, Variable};
+use bb_drive::{Clock, Clocked, Work};
+use bb_fault::range_width;
+use bb_net::{Builder, Named};
+use bb_netlist::{Gate, NetId};
+use indexmap::IndexMap;
+use std::alloc::{AllocError, Global};
+
+/// Where a variable's bits stand: its number, the number of its first bit, and how many there are.
+#[derive(Clone, Copy)]
+struct Extent {
+    number: u32,
+    first: u32,
+    width: u32,
+}
+
+/// The place of the clock's bit in a variable of this width whose bits begin at `first`, where it has it.
+fn place_in(clock: Option<u32>, first: u32, width: u32) -> Option<u32>
+    ensures { result ≡ bit_place clock first width }
+{
+    match clock {
+        Some(bit) if first <= bit && bit - first < width => Some(bit - first),
+        _ => None,
+    }
+}
+
+/// Whether a variable of this role may have the clock's bit, where it has it at a place.
+fn may_clock(role: Role, place: Option<u32>) -> bool
+    ensures { result ≡ true → (p : ℕ) → place ≡ Some p → is_input role ≡ true }
+{
+    match place {
+        None => true,
+        Some(_) => match role {
+            Role::Input => true,
+            Role::Output | Role::Wire => false,
+        },
+    }
+}
+
+/// Adds the nets of those bits of a variable that are kept.
+fn add_places(
+    builder: &mut Builder,
+    extent: Extent,
+    numbers: &[u32],
+    count: u32,
+) -> Result<(), AllocError>
+    requires bits { (p : ℕ) → p < extent.width → IsBit builder.old.variables (bit_at extent.number p) }
+    requires no_clock { ForSome builder.old.clock (λ c. c.variable < extent.number) }
+    requires before { All (λ bit. bit.variable < extent.number) builder.old.names }
+    requires within { extent.first + extent.width ≤ length numbers.now }
+    ensures { OnOk result (builder.new ≡ with_names builder.old (kept_bits (is_kept numbers.now count) extent.number extent.first extent.width)) }
+{
+    for place in 0..extent.width {
+        if numbers[extent.first as usize + place as usize] < count {
+            match builder.net(extent.number, place) {
+                Ok(_) => {}
+                Err(_) => return Err(AllocError),
+            }
+        }
+    }
+    Ok(())
+}
+
+/// Adds a variable, and answers its number.
+fn declare(
+    builder: &mut Builder,
+    name: Name,
+    variable: Variable,
+    place: Option<u32>,
+) -> Result<u32, AllocError>
+    requires range { IsRange variable.range }
+    requires ports_first { is_port variable.role ≡ true → All (λ v. is_port v.1.role ≡ true) builder.old.variables }
+    requires few { length builder.old.variables < 2 ^ 32 - 1 }
+    requires clock { ForSome place (MayClock builder.old variable) }
+    ensures added { OnOk result (Adds builder.old builder.new (name, variable) place (port_bits (length builder.old.variables) variable place)) }
+    ensures number { IfOk result (λ number. number ≡ length builder.old.variables) }
+{
+    match builder.variable(name, variable.range, variable.role, place) {
+        Ok(number) => Ok(number),
+        Err(_) => Err(AllocError),
+    }
+}
+
+/// Adds a variable, and the nets of those of its bits that are kept.
+fn add_variable(
+    builder: &mut Builder,
+    name: Name,
+    variable: Variable,
+    place: Option<u32>,
+    extent: Extent,
+    numbers: &[u32],
+    count: u32,
+) -> Result<(), AllocError>
+    requires number { extent.number ≡ length builder.old.variables }
+    requires few { extent.number < 2 ^ 32 - 1 }
+    requires width { extent.width ≡ range_width variable.range }
+    requires range { IsRange variable.range }
+    requires ports_first { is_port variable.role ≡ true → All (λ v. is_port v.1.role ≡ true) builder.old.variables }
+    requires clock { (p : ℕ) → place ≡ Some p → (p < extent.width) × (builder.old.clock ≡ None) }
+    requires clock_before { ForSome builder.old.clock (λ c. c.variable < extent.number) }
+    requires before { All (λ bit. bit.variable < extent.number) builder.old.names }
+    requires within { extent.first + extent.width ≤ length numbers.now }
+    requires port { is_port variable.role ≡ true → (p : ℕ) → p < extent.width → is_kept numbers.now count (extent.first + p) ≡ not (is_clock_bit place p) }
+    ensures { OnOk result (Adds builder.old builder.new (name, variable) place (kept_bits (is_kept numbers.now count) extent.number extent.first extent.width)) }
+{
+    if !may_clock(variable.role, place) {
+        return Err(AllocError);
+    }
+    declare(builder, name, variable, place)?;
+    match variable.role {
+        // A port has nets for all of its bits but the clock's at once.
+        Role::Input | Role::Output => Ok(()),
+        Role::Wire => add_places(builder, extent, numbers, count),
+    }
+}
+
+/// Adds a gate over numbers of nets, unless one of its bits isn't kept.
+fn add_gate(
+    alloc: Global,
+    builder: &mut Builder,
+    gate: &Gate,
+    numbers: &[u32],
+    count: u32,
+) -> Result<(), AllocError>
+    requires names { count ≡ length builder.old.names }
+    requires few { length builder.old.netlist.gates < 2 ^ 32 - 1 }
+    requires within { IsGateWithin (length numbers.now) gate.now }
+    ensures { OnOk result (builder.new ≡ with_gates builder.old (renamed_gate (number_for numbers.now) gate.now ∷ [])) }
+{
+    let out = numbers[gate.out.0 as usize];
+    if out >= count {
+        return Err(AllocError);
+    }
+    let ins = nets_of(alloc, gate.ins.as_slice(), numbers, count)?;
+    match builder.gate(gate.op, NetId(out), &ins) {
+        Ok(()) => Ok(()),
+        Err(_) => Err(AllocError),
+    }
+}
+
+/// Adds the gates whose outputs are data.
+fn add_gates(
+    alloc: Global,
+    builder: &mut Builder,
+    gates: &[Gate],
+    flags: &[bool],
+    numbers: &[u32],
+    count: u32,
+) -> Result<(), AllocError>
+    requires names { count ≡ length builder.old.names }
+    requires none { builder.old.netlist.gates ≡ [] }
+    requires within { All (IsGateWithin (length numbers.now)) gates.now }
+    requires flags { length numbers.now ≤ length flags.now }
+    ensures { OnOk result (builder.new ≡ with_gates builder.old (map (renamed_gate (number_for numbers.now)) (filter (λ g. is_marked flags.now g.out) gates.now))) }
+{
+    if gates.len() >= u32::MAX as usize {
+        return Err(AllocError);
+    }
+    for gate in gates {
+        if flags[gate.out.0 as usize] {
+            add_gate(alloc, builder, gate, numbers, count)?;
+        }
+    }
+    Ok(())
+}
+
+/// Adds the flip-flops over numbers of nets, unless one of their bits isn't kept.
+fn add_flops(
+    builder: &mut Builder,
+    flops: &[Clocked],
+    numbers: &[u32],
+    count: u32,
+) -> Result<(), AllocError>
+    requires names { count ≡ length builder.old.names }
+    requires none { builder.old.netlist.flops ≡ [] }
+    requires within { All (IsFlopWithin (length numbers.now)) flops.now }
+    ensures { OnOk result (builder.new ≡ with_flops builder.old (map (numbered_flop (number_for numbers.now)) flops.now)) }
+{
+    if flops.len() >= u32::MAX as usize {
+        return Err(AllocError);
+    }
+    for flop in flops {
+        let q = numbers[flop.q.0 as usize];
+        let d = numbers[flop.d.0 as usize];
+        if q >= count || d >= count {
+            return Err(AllocError);
+        }
+        builder.flop(NetId(q), NetId(d))?;
+    }
+    Ok(())
+}
+
+/// How many bits a variable has, where those from `first` on are below `fresh`.
+fn width_within(range: Option<(u32, u32)>, first: u32, fresh: usize) -> Option<u32>
+    ensures width { IfSome result (λ width. width ≡ range_width range) }
+    ensures within { IfSome result (λ width. first + width ≤ fresh) }
+    ensures fits { IfSome result (λ width. first + width < 2 ^ 32) }
+{
+    let width = range_width(range);
+    if width > u64::from(u32::MAX - first) || first as usize + width as usize > fresh {
+        return None;
+    }
+    Some(width as u32)
+}
+
+/// Adds the variables in their order, each with the nets of its kept bits.
+fn add_variables(
+    builder: &mut Builder,
+    vars: IndexMap<Name, Variable>,
+    clock: Option<u32>,
+    numbers: &[u32],
+    count: u32,
+) -> Result<(), AllocError>
+    requires no_variables { builder.old.variables ≡ [] }
+    requires no_names { builder.old.names ≡ [] }
+    requires no_clock { builder.old.clock ≡ None }
+    requires entries { All IsEntry vars.entries }
+    requires ports_first { ArePortsFirst vars.entries }
+    requires ports { KeepsPorts vars.entries (length numbers.now) clock (is_kept numbers.now count) }
+    ensures variables { OnOk result (builder.new.variables ≡ vars.entries) }
+    ensures total { OnOk result (bit_count vars.entries ≡ length numbers.now) }
+    ensures stands { OnOk result (AreAdded builder.old clock (is_kept numbers.now count) vars.entries builder.new) }
+{
+    let mut number: u32 = 0;
+    let mut first: u32 = 0;
+    for (name, variable) in vars {
+        let Some(next) = number.checked_add(1) else {
+            return Err(AllocError);
+        };
+        let Some(width) = width_within(variable.range, first, numbers.len()) else {
+            return Err(AllocError);
+        };
+        let place = place_in(clock, first, width);
+        let extent = Extent {
+            number,
+            first,
+            width,
+        };
+        add_variable(builder, name, variable, place, extent, numbers, count)?;
+        number = next;
+        first += width;
+    }
+    if first as usize != numbers.len() {
+        return Err(AllocError);
+    }
+    Ok(())
+}
+
+/// The named netlist over these variables and this work, without the clock's nets.
+pub fn assemble(
+    alloc: Global,
+    name: Name,
+    vars: IndexMap<Name, Variable>,
+    work: &Work,
+    bits: &[u32],
+    clock: &Clock,
+) -> Result<Named, AllocError>
+    requires nets { bits.now ≡ nets vars.entries work.now }
+    requires driven { driver_fault vars.entries work.now ≡ None }
+    requires clocked { clock_fault vars.entries work.now ≡ None }
+    requires within { IsWithin work.now }
+    requires clock { clock.now.bit ≡ clock_of work.now }
+    requires data { (b : ℕ) → b < work.now.fresh → slice_get clock.now.data.items b ≡ Some (is_data work.now b) }
+    requires entries { All IsEntry vars.entries }
+    requires ports_first { ArePortsFirst vars.entries }
+    ensures named { IfOk result (λ named. named ≡ named_of name vars.entries work.now) }
+    ensures valid { OnOk result (IsNamed (named_of name vars.entries work.now)) }
+{
+    let flags = clock.data.as_slice();
+    let (nets, count) = numbers_of(alloc, work.fresh, bits, flags)?;
+    let numbers = nets.as_slice();
+    let mut builder = Builder::new(alloc, name)?;
+    add_variables(&mut builder, vars, clock.bit, numbers, count)?;
+    add_gates(alloc, &mut builder, &work.gates, flags, numbers, count)?;
+    add_flops(&mut builder, &work.flops, numbers, count)?;
+    match builder.finish() {
+        Ok(named) => Ok(named),
+        Err(_) => Err(AllocError),
+    }
+}

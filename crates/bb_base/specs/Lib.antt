@@ -1,0 +1,9 @@
+pub mod Booleans
+pub mod Firsts
+pub mod Name
+pub mod NameLaws
+pub mod Words
+pub mod Keywords
+pub mod OwnNames
+pub mod Operators
+pub mod Variables

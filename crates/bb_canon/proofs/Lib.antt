@@ -1,0 +1,15 @@
+pub mod AlongLemmas
+pub mod BitAgain
+pub mod Declaring
+pub mod Designs
+pub mod Distincts
+pub mod Drafts
+pub mod Drawing
+pub mod Draws
+pub mod Found
+pub mod OneDesign
+pub mod Redrawn
+pub mod RoleBits
+pub mod Sections
+pub mod SectionsOf
+pub mod Whole

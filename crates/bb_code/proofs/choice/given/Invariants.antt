@@ -1,6 +1,0 @@
-use Rattle.std.proofs.Common.{◌≡◌, take}
-use Rattle.bb_code.specs.Columns.{given}
-use Rattle.bb_code.proofs.choice.given.Given as goal
-
-abbrev pub invariant-loop-source : goal.invariant-loop-source
-invariant-loop-source l = l.rows.items ≡ given l.columns (take l.source-index l.segment)

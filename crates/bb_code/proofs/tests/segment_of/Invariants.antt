@@ -1,5 +1,0 @@
-use Rattle.bb_code.specs.Segments.{IsSegment}
-use Rattle.bb_code.proofs.tests.segment_of.Given as goal
-
-abbrev pub invariant-loop-source : goal.invariant-loop-source
-invariant-loop-source g l = IsSegment l.sources l.segment.items

@@ -1,6 +1,0 @@
-use Rattle.std.specs.List.{AllByRecursion}
-use Rattle.bb_code.specs.Segments.{IsSegment, sources_of}
-use Rattle.bb_code.proofs.tests.segments_of.Given as goal
-
-abbrev pub invariant-loop-list : goal.invariant-loop-list
-invariant-loop-list g l = AllByRecursion (IsSegment l.sources) (sources_of l.segments.items)

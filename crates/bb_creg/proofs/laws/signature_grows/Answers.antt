@@ -1,0 +1,5 @@
+use Rattle.bb_creg.proofs.Growth.{grows}
+use Rattle.bb_creg.proofs.laws.signature_grows.Goals as goal
+
+pub returns : goal.returns
+returns c = grows

@@ -1,0 +1,9 @@
+pub mod BitNames
+pub mod ClockLaws
+pub mod DriverFaults
+pub mod DriverTests
+pub mod LabelLaws
+pub mod MadeNames
+pub mod MarkLaws
+pub mod OriginLaws
+pub mod Tallied

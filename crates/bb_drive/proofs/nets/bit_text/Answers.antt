@@ -1,0 +1,30 @@
+use Rattle.std.proofs.Common.{arith, ◌≡◌}
+use Rattle.std.specs.Prelude.{Some, slice_get}
+use Rattle.std.proofs.lemmas.Bool.Decides.{nat_tests}
+use Rattle.bb_base.specs.Variables.{Entry}
+use Rattle.bb_drive.proofs.BitNames.{name_next, bit_found}
+use Rattle.bb_drive.proofs.nets.bit_text.Goals as goal
+
+pub returns-then-place-width : goal.returns-then-place-width
+returns-then-place-width c =
+    let es = c.args.vars.now.entries in
+    let i = c.loop-index.index in
+    let v : Entry = (c.unwrap.result.0.now, c.unwrap.result.1.now) in
+    let at : slice_get es i ≡ Some v = grind (arith, c.get_index.ensures.entry, c.unwrap.ensures) in
+    bit_found es i c.loop-index.place c.args.bit v c.in_ok-copy.field-0 c.index_of.result at
+    (omega (arith, c.if-place-width.true, c.range_width-width.ensures))
+    c.loop-index.invariant.same
+    c.in_ok-copy.ensures
+    (grind (arith, c.index_of.ensures, c.if-place-width.true, c.loop-index.invariant.within, c.ranges.bit.fits))
+
+pub loop-index-preserved : goal.loop-index-preserved
+loop-index-preserved c =
+    let es = c.args.vars.now.entries in
+    let i = c.loop-index.index in
+    let v : Entry = (c.unwrap.result.0.now, c.unwrap.result.1.now) in
+    let at : slice_get es i ≡ Some v = grind (arith, c.get_index.ensures.entry, c.unwrap.ensures) in
+    let next = name_next es i i c.loop-index.place v at in
+    record {
+      within = omega arith;
+      same = grind (arith, nat_tests, next, c.range_width-width.ensures, c.loop-index.invariant.same, c.if-place-width.false);
+    }

@@ -1,6 +1,0 @@
-use Rattle.std.proofs.Common.{◌≡◌, take}
-use Rattle.bb_elab.specs.Making.{as_value}
-use Rattle.bb_elab.proofs.bitwise.as_value.Given as goal
-
-abbrev pub invariant-loop-net : goal.invariant-loop-net
-invariant-loop-net l = l.value.items ≡ as_value (take l.net-index l.nets)

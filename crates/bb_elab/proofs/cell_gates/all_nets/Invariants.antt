@@ -1,6 +1,0 @@
-use Rattle.std.proofs.Common.{◌≡◌, ◌++◌, drop, map}
-use Rattle.bb_elab.specs.Making.{all_nets}
-use Rattle.bb_elab.proofs.cell_gates.all_nets.Given as goal
-
-abbrev pub invariant-loop-part : goal.invariant-loop-part
-invariant-loop-part l = l.nets.items ++ all_nets (map (λ r. r.now) (drop l.part-index l.ins)) ≡ all_nets (map (λ r. r.now) l.ins)

@@ -1,7 +1,0 @@
-use Rattle.std.proofs.Common.{◌≡◌, ◌++◌, drop, map}
-use Rattle.bb_elab.specs.Kinds.{texts}
-use Rattle.bb_elab.specs.Making.{nets_of}
-use Rattle.bb_elab.proofs.cell_gates.inputs.Given as goal
-
-abbrev pub invariant-loop-name : goal.invariant-loop-name
-invariant-loop-name l = map (λ r. r.now) l.ins.items ++ map (nets_of l.read) (texts (drop l.name-index l.names)) ≡ map (nets_of l.read) (texts l.names)

@@ -1,9 +1,0 @@
-use Rattle.std.proofs.Common.{◌≡◌, ◌<◌, take, map, All}
-use Rattle.bb_elab.specs.Assembling.{number_at}
-use Rattle.bb_elab.proofs.numbers.nets_of.Given as goal
-
-abbrev pub invariant-loop-bit : goal.invariant-loop-bit
-invariant-loop-bit l = record {
-  nets : l.nets.items ≡ map (number_at l.numbers) (take l.bit-index l.bits);
-  kept : All (λ net. net < l.count) l.nets.items;
-}

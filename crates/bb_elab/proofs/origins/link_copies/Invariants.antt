@@ -1,5 +1,0 @@
-use Rattle.bb_elab.specs.Origins.{AreCopies}
-use Rattle.bb_elab.proofs.origins.link_copies.Given as goal
-
-abbrev pub invariant-bits : goal.invariant-bits
-invariant-bits l = AreCopies l.backs l.bit l.newest l.older

@@ -1,6 +1,0 @@
-use Rattle.std.proofs.Common.{◌≡◌, ◌++◌, ◌-◌}
-use Rattle.bb_elab.specs.Making.{const_bits}
-use Rattle.bb_elab.proofs.steps.const_bits.Given as goal
-
-abbrev pub invariant-loop-place : goal.invariant-loop-place
-invariant-loop-place l = l.bits.items ++ const_bits (l.size - l.place) l.number ≡ const_bits l.size l.number

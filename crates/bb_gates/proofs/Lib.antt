@@ -1,0 +1,5 @@
+pub mod Grounding
+pub mod StepLaws
+pub mod AllItems
+pub mod WithinGates
+pub mod WithinSteps

@@ -1,0 +1,6 @@
+use Rattle.std.proofs.Common.{◌≡◌, ◌++◌, ◌-◌}
+use Rattle.bb_gates.specs.Making.{const_bits}
+use Rattle.bb_gates.proofs.steps.const_bits.Given as goal
+
+abbrev pub invariant-loop-place : goal.invariant-loop-place
+invariant-loop-place l = l.bits.items ++ const_bits (l.size - l.place) l.number ≡ const_bits l.size l.number

@@ -1,0 +1,14 @@
+//! Gates: what the items of a module make, in the text's order.
+//!
+//! - `work_of` answers exactly the gates and flip-flops that `specs/Making.antt` says.
+#![tactic(auto)]
+
+mod bitwise;
+mod cell_gates;
+mod items;
+mod prims;
+mod steps;
+mod value;
+
+pub use items::work_of;
+pub use value::Bit;

@@ -1,6 +1,0 @@
-use Rattle.std.proofs.Common.{◌≡◌, map, take}
-use Rattle.bb_net.specs.Levels.{number_in}
-use Rattle.bb_net.proofs.order.numbers_of.Given as goal
-
-abbrev pub invariant-keys : goal.invariant-keys
-invariant-keys l = l.numbers.items ≡ map number_in (take l.key-index l.keys)

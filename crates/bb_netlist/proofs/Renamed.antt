@@ -1,0 +1,81 @@
+-- A netlist under other names has the same runs, for any meaning of gates.
+use Rattle.std.proofs.Common.{◌≡◌, List, [], ◌∷◌, Bool, map, sym, ap, ◌∙◌, subst}
+use Rattle.std.specs.List.{AllByRecursion}
+use Rattle.bb_netlist.specs.Net.{Gate, Flop, Netlist, renamed, renamed_gate, renamed_flop}
+use Rattle.bb_netlist.specs.Run.{IsRun, IsRunBy, SettlesBy, MeetsBy, by_op, next_states}
+use Rattle.bb_base.proofs.Lists.{map_twice, all_map, all_map_back, both_map, map_alike}
+
+-- g finds a net by its new name
+abbrev pub Back : {M N : Type 0} → (M → N) → (N → M) → M → Type 0
+Back f g m = g (f m) ≡ m
+
+-- and so each net of the netlist
+pub record FindsAll {M N : Type 0} (f : M → N) (g : N → M) (n : Netlist M) : Type 0 where
+  pub inputs : AllByRecursion (Back f g) n.inputs
+  pub gates : AllByRecursion (λ (h : Gate M). Back f g h.out × AllByRecursion (Back f g) h.ins) n.gates
+  pub flops : AllByRecursion (λ (p : Flop M). Back f g p.q × Back f g p.d) n.flops
+
+-- what renamed gates give, said of gates under their old names
+abbrev pub meaning_of : {M N : Type 0} → (M → N) → (Gate N → List Bool → Bool) → Gate M → List Bool → Bool
+meaning_of f gives g = gives (renamed_gate f g)
+
+module _ {M N : Type 0} (f : M → N) (gives : Gate N → List Bool → Bool) (n : Netlist M) where
+  -- values under the new names, as values under the old ones
+  pub settles_back : (i s : List Bool) (v : N → Bool) → SettlesBy gives (renamed f n) i s v → SettlesBy (meaning_of f gives) n i s (λ m. v (f m))
+  settles_back i s v h = record {
+    inputs = sym (map_twice v f n.inputs) ∙ h.inputs;
+    state = sym (map_twice (λ (p : Flop N). v p.q) (renamed_flop f) n.flops) ∙ h.state;
+    gates = all_map (MeetsBy gives v) (MeetsBy (meaning_of f gives) (λ m. v (f m))) (renamed_gate f) (λ g e. e ∙ ap (gives (renamed_gate f g)) (map_twice v f g.ins)) n.gates h.gates;
+  }
+
+  pub settles_forth : (i s : List Bool) (v : N → Bool) → SettlesBy (meaning_of f gives) n i s (λ m. v (f m)) → SettlesBy gives (renamed f n) i s v
+  settles_forth i s v h = record {
+    inputs = map_twice v f n.inputs ∙ h.inputs;
+    state = map_twice (λ (p : Flop N). v p.q) (renamed_flop f) n.flops ∙ h.state;
+    gates = all_map_back (MeetsBy gives v) (MeetsBy (meaning_of f gives) (λ m. v (f m))) (renamed_gate f) (λ g e. e ∙ ap (gives (renamed_gate f g)) (sym (map_twice v f g.ins))) n.gates h.gates;
+  }
+
+  pub next_same : (v : N → Bool) → next_states (renamed f n) v ≡ next_states n (λ m. v (f m))
+  next_same v = map_twice (λ (p : Flop N). v p.d) (renamed_flop f) n.flops
+
+  pub run_back_by : (s : List Bool) (is : List (List Bool)) (vs : List (N → Bool)) → IsRunBy gives (renamed f n) s is vs → IsRunBy (meaning_of f gives) n s is (map (λ v m. v (f m)) vs)
+  run_back_by s [] [] h = tt
+  run_back_by s (i ∷ is) (v ∷ vs) h =
+      (settles_back i s v h.0, subst (λ t. IsRunBy (meaning_of f gives) n t is (map (λ w m. w (f m)) vs)) (next_same v) (run_back_by (next_states (renamed f n) v) is vs h.1))
+  run_back_by s [] (v ∷ vs) h = h
+  run_back_by s (i ∷ is) [] h = h
+
+  pub run_forth_by : (s : List Bool) (is : List (List Bool)) (vs : List (N → Bool)) → IsRunBy (meaning_of f gives) n s is (map (λ v m. v (f m)) vs) → IsRunBy gives (renamed f n) s is vs
+  run_forth_by s [] [] h = tt
+  run_forth_by s (i ∷ is) (v ∷ vs) h =
+      (settles_forth i s v h.0, run_forth_by (next_states (renamed f n) v) is vs (subst (λ t. IsRunBy (meaning_of f gives) n t is (map (λ w m. w (f m)) vs)) (sym (next_same v)) h.1))
+  run_forth_by s [] (v ∷ vs) h = h
+  run_forth_by s (i ∷ is) [] h = h
+
+-- values under the old names, carried to the new ones
+pub run_named_by : {M N : Type 0} (f : M → N) (g : N → M) (gives : Gate N → List Bool → Bool) (n : Netlist M) → FindsAll f g n → (s : List Bool) (is : List (List Bool)) (ws : List (M → Bool))
+    → IsRunBy (meaning_of f gives) n s is ws → IsRunBy gives (renamed f n) s is (map (λ w k. w (g k)) ws)
+run_named_by f g gives n named s [] [] h = tt
+run_named_by {M} {N} f g gives n named s (i ∷ is) (w ∷ ws) h =
+    let v : N → Bool = λ k. w (g k) in
+    let val : SettlesBy gives (renamed f n) i s v = record {
+      inputs = map_alike v f w (Back f g) (λ x e. ap w e) n.inputs named.inputs ∙ h.0.inputs;
+      state = map_alike (λ (p : Flop N). v p.q) (renamed_flop f) (λ (p : Flop M). w p.q) (λ (p : Flop M). Back f g p.q × Back f g p.d) (λ p e. ap w e.0) n.flops named.flops ∙ h.0.state;
+      gates = both_map (MeetsBy gives v) (MeetsBy (meaning_of f gives) w) (λ (q : Gate M). Back f g q.out × AllByRecursion (Back f g) q.ins) (renamed_gate f)
+          (λ q m e. ap w e.0 ∙ m ∙ ap (gives (renamed_gate f q)) (sym (map_alike v f w (Back f g) (λ x d. ap w d) q.ins e.1))) n.gates h.0.gates named.gates;
+    } in
+    let next : next_states (renamed f n) v ≡ next_states n w = map_alike (λ (p : Flop N). v p.d) (renamed_flop f) (λ (p : Flop M). w p.d) (λ (p : Flop M). Back f g p.q × Back f g p.d) (λ p e. ap w e.1) n.flops named.flops in
+    (val, subst (λ t. IsRunBy gives (renamed f n) t is (map (λ u k. u (g k)) ws)) (sym next) (run_named_by f g gives n named (next_states n w) is ws h.1))
+run_named_by f g gives n named s [] (w ∷ ws) h = h
+run_named_by f g gives n named s (i ∷ is) [] h = h
+
+-- the same where each gate is as its operator says
+pub run_back : {M N : Type 0} (f : M → N) (n : Netlist M) (s : List Bool) (is : List (List Bool)) (vs : List (N → Bool)) → IsRun (renamed f n) s is vs → IsRun n s is (map (λ v m. v (f m)) vs)
+run_back f n s is vs h = run_back_by f by_op n s is vs h
+
+pub run_forth : {M N : Type 0} (f : M → N) (n : Netlist M) (s : List Bool) (is : List (List Bool)) (vs : List (N → Bool)) → IsRun n s is (map (λ v m. v (f m)) vs) → IsRun (renamed f n) s is vs
+run_forth f n s is vs h = run_forth_by f by_op n s is vs h
+
+pub run_named : {M N : Type 0} (f : M → N) (g : N → M) (n : Netlist M) → FindsAll f g n → (s : List Bool) (is : List (List Bool)) (ws : List (M → Bool))
+    → IsRun n s is ws → IsRun (renamed f n) s is (map (λ w k. w (g k)) ws)
+run_named f g n named s is ws h = run_named_by f g by_op n named s is ws h

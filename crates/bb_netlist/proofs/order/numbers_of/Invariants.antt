@@ -1,0 +1,6 @@
+use Rattle.std.proofs.Common.{◌≡◌, map, take}
+use Rattle.bb_netlist.specs.Levels.{number_in}
+use Rattle.bb_netlist.proofs.order.numbers_of.Given as goal
+
+abbrev pub invariant-keys : goal.invariant-keys
+invariant-keys l = l.numbers.items ≡ map number_in (take l.key-index l.keys)

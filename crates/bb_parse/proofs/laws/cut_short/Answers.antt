@@ -1,5 +1,0 @@
-use Rattle.bb_parse.proofs.Exact.{no_end}
-use Rattle.bb_parse.proofs.laws.cut_short.Goals as goal
-
-pub returns : goal.returns
-returns c = no_end

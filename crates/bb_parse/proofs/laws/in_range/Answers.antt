@@ -1,5 +1,0 @@
-use Rattle.bb_parse.proofs.Sounds.{sound_module}
-use Rattle.bb_parse.proofs.laws.in_range.Goals as goal
-
-pub returns : goal.returns
-returns c = sound_module

@@ -1,7 +1,0 @@
-use Rattle.bb_net.specs.Named.{design_of}
-use Rattle.bb_print.proofs.Designs.{design_text}
-use Rattle.bb_print.proofs.Derived.{text_grammatical}
-use Rattle.bb_print.proofs.laws.canonical_is_grammatical.Goals as goal
-
-pub returns : goal.returns
-returns c = λ a h. text_grammatical (design_of a) (design_text a h)

@@ -1,8 +1,0 @@
-use Rattle.std.proofs.Common.{◌≡◌, ◌++◌, drop, map}
-use Rattle.std.specs.List.{flat_map}
-use Rattle.bb_net.specs.Named.{net_text}
-use Rattle.bb_print.specs.Spelling.{spelled_bit, further}
-use Rattle.bb_print.proofs.line.write_further.Given as goal
-
-abbrev pub invariant-nets : goal.invariant-nets
-invariant-nets l = l.line.items ++ flat_map further (map spelled_bit (map (net_text l.named) (drop l.net-index l.nets))) ≡ l.fn.line.items ++ flat_map further (map spelled_bit (map (net_text l.named) l.nets))

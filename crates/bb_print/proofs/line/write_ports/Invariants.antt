@@ -1,6 +1,0 @@
-use Rattle.std.proofs.Common.{◌≡◌, ◌++◌, drop, false}
-use Rattle.bb_print.proofs.Ports.{ports_from}
-use Rattle.bb_print.proofs.line.write_ports.Given as goal
-
-abbrev pub invariant-ports : goal.invariant-ports
-invariant-ports l = l.line.items ++ ports_from l.parted (drop l.number l.named.variables) ≡ l.fn.line.items ++ ports_from false l.named.variables

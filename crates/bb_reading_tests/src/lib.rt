@@ -1,0 +1,11 @@
+//! Tests of reading: what texts give, by examples. Nothing stands on this crate.
+#![tactic(auto)]
+
+#[cfg(test)]
+mod elaboration;
+#[cfg(test)]
+mod files;
+#[cfg(test)]
+mod lexer;
+#[cfg(test)]
+mod parser;

@@ -1,0 +1,10 @@
+pub mod Within
+pub mod Sorting
+pub mod Orders
+pub mod Walks
+pub mod Ranks
+pub mod Loops
+pub mod Counting
+pub mod Traces
+pub mod Valuations
+pub mod NamedRuns

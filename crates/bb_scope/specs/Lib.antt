@@ -1,0 +1,10 @@
+pub mod Names
+pub mod Declarations
+pub mod Variables
+pub mod Cells
+pub mod Kinds
+pub mod References
+pub mod Said
+pub mod Uses
+pub mod Numbers
+pub mod Terminals

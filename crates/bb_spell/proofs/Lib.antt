@@ -1,0 +1,13 @@
+pub mod Again
+pub mod Clean
+pub mod Texts
+pub mod FirstBad
+pub mod Keeps
+pub mod Nets
+pub mod Parts
+pub mod Pieces
+pub mod Ports
+pub mod Rising
+pub mod Shorter
+pub mod Words
+pub mod Back

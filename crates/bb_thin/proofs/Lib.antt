@@ -1,0 +1,13 @@
+pub mod Forward
+pub mod Backward
+pub mod Texts
+pub mod Found
+pub mod Alike
+pub mod NameLemmas
+pub mod WeaveLemmas
+pub mod RowLemmas
+pub mod LayLemmas
+pub mod FillLemmas
+pub mod WovenLemmas
+pub mod BitLemmas
+pub mod FewLemmas
