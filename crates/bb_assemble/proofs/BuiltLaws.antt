@@ -56,7 +56,7 @@ AreFlags w flags = (b : ℕ) → b < w.fresh → slice_get flags b ≡ Some (is_
 pub same_flags : (w : Work) (flags slice : List Bool) → AreFlags w flags → slice ≡ flags → AreFlags w slice
 same_flags w flags slice h e b less = ap (λ fs. slice_get fs b) e ∙ h b less
 
-flag_is : (w : Work) (flags : List Bool) (b : ℕ) → AreFlags w flags → b < w.fresh → is_marked flags b ≡ is_data w b
+pub flag_is : (w : Work) (flags : List Bool) (b : ℕ) → AreFlags w flags → b < w.fresh → is_marked flags b ≡ is_data w b
 flag_is w flags b h less = get_or_from_slice_get flags b (is_data w b) false (h b less)
 
 -- the flagged nets are those that are kept
@@ -187,7 +187,7 @@ clock_is_some vars w clock flops number c f = subst (λ o. IsSome o ↔ (0 < len
     by (k ∷ fs) = (λ h. omega arith, λ h. refl)
 
 -- a filter that all pass
-filter_all : (p : ℕ → Bool) (xs : List ℕ) → ((b : ℕ) → has_bit xs b ≡ true → p b ≡ true) → filter p xs ≡ xs
+pub filter_all : (p : ℕ → Bool) (xs : List ℕ) → ((b : ℕ) → has_bit xs b ≡ true → p b ≡ true) → filter p xs ≡ xs
 filter_all p [] h = refl
 filter_all p (x ∷ xs) h =
     let own : nat_eq x x ≡ true = grind (arith, nat_tests) in

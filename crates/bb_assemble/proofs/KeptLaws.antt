@@ -24,7 +24,7 @@ use Rattle.bb_assemble.proofs.NamedBits.{or_left, or_right, has_range}
 
 -- a fault that is none ---------------------------------------------------
 
-neither : {T : Type 0} (a b : Option T) → option_or a b ≡ None → (a ≡ None) × (b ≡ None)
+pub neither : {T : Type 0} (a b : Option T) → option_or a b ≡ None → (a ≡ None) × (b ≡ None)
 neither None b h = (refl, h)
 neither (Some x) b h = cc
 
@@ -64,7 +64,7 @@ has_filter p (x ∷ xs) b = by (p x) refl (nat_eq b x) refl (p b) refl (has_filt
     by false e false f true g h = h ∙ ap (λ k. k && has_bit xs b) g
     by false e false f false g h = h ∙ ap (λ k. k && has_bit xs b) g
 
-range_in : (from n b : ℕ) → has_bit (range_with_len from n) b ≡ true → b < from + n
+pub range_in : (from n b : ℕ) → has_bit (range_with_len from n) b ≡ true → b < from + n
 range_in from zero b h = cc
 range_in from (suc n) b h = by (nat_eq b from) refl h (range_in (from + 1) n b)
   where
@@ -78,21 +78,21 @@ range_in from (suc n) b h = by (nat_eq b from) refl h (range_in (from + 1) n b)
 abbrev pub is_net : List Entry → Work → ℕ → Bool
 is_net vars w b = has_bit (bits_driven vars w) b || has_bit (bits_read vars w) b
 
-net_found : (vars : List Entry) (w : Work) (b : ℕ) → b < w.fresh → is_net vars w b ≡ true → has_bit (nets vars w) b ≡ true
+pub net_found : (vars : List Entry) (w : Work) (b : ℕ) → b < w.fresh → is_net vars w b ≡ true → has_bit (nets vars w) b ≡ true
 net_found vars w b less net =
     let within : has_bit (range_with_len 0 w.fresh) b ≡ true = has_range 0 w.fresh b (omega arith) (omega arith) in
     has_filter (is_net vars w) (range_with_len 0 w.fresh) b ∙ (λ i. net i && within i)
 
 -- a net that no fault names fails the fault's test
-unnamed : (fault : List ℕ → Option ℕ → ElabFault) (test : ℕ → Bool) (vars : List Entry) (w : Work) (b : ℕ) → first_net fault test vars w ≡ None → b < w.fresh → is_net vars w b ≡ true → test b ≡ false
+pub unnamed : (fault : List ℕ → Option ℕ → ElabFault) (test : ℕ → Bool) (vars : List Entry) (w : Work) (b : ℕ) → first_net fault test vars w ≡ None → b < w.fresh → is_net vars w b ≡ true → test b ≡ false
 unnamed fault test vars w b h less net = find_fails test (nets vars w) b (unmapped (λ k. fault (bit_text vars k).name (bit_text vars k).index) (find test (nets vars w)) h) (net_found vars w b less net)
 
-input_is_net : (vars : List Entry) (w : Work) (b : ℕ) → has_bit (input_bits vars) b ≡ true → is_net vars w b ≡ true
+pub input_is_net : (vars : List Entry) (w : Work) (b : ℕ) → has_bit (input_bits vars) b ≡ true → is_net vars w b ≡ true
 input_is_net vars w b h =
     or_left (has_bit (bits_driven vars w) b) (has_bit (bits_read vars w) b)
     (list_any-append (nat_eq b) (input_bits vars) (map (λ g. g.out) w.gates ++ map (λ f. f.q) w.flops) ∙ or_left (has_bit (input_bits vars) b) (has_bit (map (λ g. g.out) w.gates ++ map (λ f. f.q) w.flops) b) h)
 
-output_is_net : (vars : List Entry) (w : Work) (b : ℕ) → has_bit (output_bits vars) b ≡ true → is_net vars w b ≡ true
+pub output_is_net : (vars : List Entry) (w : Work) (b : ℕ) → has_bit (output_bits vars) b ≡ true → is_net vars w b ≡ true
 output_is_net vars w b h =
     let more : List ℕ = flat_map (λ g. g.ins) w.gates ++ (map (λ f. f.d) w.flops ++ map (λ f. f.clock) w.flops) in
     or_right (has_bit (bits_driven vars w) b) (has_bit (bits_read vars w) b) (list_any-append (nat_eq b) (output_bits vars) more ∙ or_left (has_bit (output_bits vars) b) (has_bit more b) h)
@@ -108,7 +108,7 @@ pin_is_net vars w b h =
 
 -- the way back from an input ----------------------------------------------
 
-counted : (b : ℕ) (xs : List ℕ) → has_bit xs b ≡ true → 1 ≤ count_by (nat_eq b) xs
+pub counted : (b : ℕ) (xs : List ℕ) → has_bit xs b ≡ true → 1 ≤ count_by (nat_eq b) xs
 counted b [] h = cc
 counted b (x ∷ xs) h = by (nat_eq b x) refl h (counted b xs)
   where
@@ -116,7 +116,7 @@ counted b (x ∷ xs) h = by (nat_eq b x) refl h (counted b xs)
     by true e k rec = omega (arith, sum_by-cons (λ m. cond (nat_eq b m) 1 0) x xs, ap {B = ℕ} (λ t. cond t 1 0) e)
     by false e k rec = omega (arith, sum_by-cons (λ m. cond (nat_eq b m) 1 0) x xs, rec k)
 
-undriven_by : (b : ℕ) (gates : List (Gate ℕ)) → count_by (nat_eq b) (map (λ g. g.out) gates) ≡ 0 → find (λ g. nat_eq b g.out) gates ≡ None
+pub undriven_by : (b : ℕ) (gates : List (Gate ℕ)) → count_by (nat_eq b) (map (λ g. g.out) gates) ≡ 0 → find (λ g. nat_eq b g.out) gates ≡ None
 undriven_by b [] h = refl
 undriven_by b (g ∷ gates) h = by (nat_eq b g.out) refl (undriven_by b gates)
   where
@@ -124,7 +124,7 @@ undriven_by b (g ∷ gates) h = by (nat_eq b g.out) refl (undriven_by b gates)
     by true e rec = absurd (omega (arith, h, sum_by-cons (λ m. cond (nat_eq b m) 1 0) g.out (map (λ g. g.out) gates), ap {B = ℕ} (λ t. cond t 1 0) e))
     by false e rec = rec (omega (arith, h, sum_by-cons (λ m. cond (nat_eq b m) 1 0) g.out (map (λ g. g.out) gates)))
 
-stays : (steps : ℕ) (gates : List (Gate ℕ)) (b : ℕ) → find (λ g. nat_eq b g.out) gates ≡ None → origin_within steps gates b ≡ b
+pub stays : (steps : ℕ) (gates : List (Gate ℕ)) (b : ℕ) → find (λ g. nat_eq b g.out) gates ≡ None → origin_within steps gates b ≡ b
 stays zero gates b h = refl
 stays (suc steps) gates b h = ap (λ g. on_some (copied_by g) b (origin_within steps gates)) h
 
@@ -162,7 +162,7 @@ clock_is_input vars w c h within is = by w.flops refl is (recursion_from_All (Is
         let one : origin w f.clock ≡ c = cc in
         ap (has_bit (input_bits vars)) (sym one) ∙ and_not (has_bit (clock_pins w) f.clock) (has_bit (input_bits vars) (origin w f.clock)) test pin
 
-and_other : (a b : Bool) → (a && b) ≡ false → b ≡ true → a ≡ false
+pub and_other : (a b : Bool) → (a && b) ≡ false → b ≡ true → a ≡ false
 and_other true true h k = cc
 and_other true false h k = cc
 and_other false b h k = refl
@@ -178,7 +178,7 @@ output_is_data vars w b h less output =
 
 -- ports ----------------------------------------------------------------------
 
-or_split : (a b : Bool) → (a || b) ≡ true → (a ≡ true) ⊎ (b ≡ true)
+pub or_split : (a b : Bool) → (a || b) ≡ true → (a ≡ true) ⊎ (b ≡ true)
 or_split true b h = inl refl
 or_split false b h = inr h
 

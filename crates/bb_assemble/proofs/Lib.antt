@@ -6,3 +6,7 @@ pub mod NumberLaws
 pub mod PlaceSteps
 pub mod RangeLaws
 pub mod VariableSteps
+pub mod KeptNets
+pub mod NumberedNets
+pub mod NamedLaws
+pub mod KeptGates

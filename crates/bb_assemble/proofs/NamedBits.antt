@@ -45,7 +45,7 @@ name_here (v ∷ vs) e after n p h = by (nat_lt (range_width v.1.range + bit_cou
         let number : suc n + length vs ≡ n + suc (length vs) = omega arith in
         ap (bit_name (suc n) (vs ++ e ∷ after)) rest ∙ rec ∙ ap (λ k. bit_at k p) number
 
-name_least : (vs : List Entry) (n b : ℕ) → n ≤ (bit_name n vs b).variable
+pub name_least : (vs : List Entry) (n b : ℕ) → n ≤ (bit_name n vs b).variable
 name_least [] n b = omega arith
 name_least (v ∷ vs) n b = by (nat_lt b (range_width v.1.range)) (name_least vs (suc n) (b - range_width v.1.range))
   where

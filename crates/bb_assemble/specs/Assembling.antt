@@ -1,10 +1,10 @@
 -- What holds while a named netlist is put together.
 -- (No outcome rests on these: they serve contracts of inner calls and proofs.)
-use Rattle.std.specs.Prelude.{◌≡◌, ℕ, ◌+◌, ◌-◌, ◌<◌, nat_eq, nat_lt, nat_le, Bool, true, false, not, ◌&&◌, List, [], ◌∷◌, ◌++◌, map, length, filter, Option, Some, None, slice_get, slice_index, if◌then◌else◌}
+use Rattle.std.specs.Prelude.{◌≡◌, ℕ, ◌+◌, ◌-◌, ◌<◌, nat_eq, nat_lt, nat_le, Bool, true, false, not, ◌&&◌, List, [], ◌∷◌, ◌++◌, map, length, filter, Option, Some, None, slice_get, slice_index, if◌then◌else◌, All}
 use Rattle.std.specs.List.{range_with_len, position_or_len}
 use Rattle.bb_base.specs.declared.variable.BitName.{BitName}
 use Rattle.bb_base.specs.Variables.{Entry, is_port, bit_at, bit_count}
-use Rattle.bb_netlist.specs.Net.{Flop}
+use Rattle.bb_netlist.specs.Net.{Gate, Flop}
 use Rattle.bb_net.specs.Named.{Named}
 use Rattle.bb_net.specs.Building.{clock_with}
 use Rattle.bb_drive.specs.Work.{Clocked}
@@ -28,6 +28,23 @@ pub record IsNumbering (fresh : ℕ) (bits : List ℕ) (flags : List Bool) (numb
 -- a bit is kept where its number is one of so many nets
 abbrev pub is_kept : List ℕ → ℕ → ℕ → Bool
 is_kept numbers count b = nat_lt (number_for numbers b) count
+
+-- the bit has one of so many nets
+abbrev pub HasNet : List ℕ → ℕ → ℕ → Type 0
+HasNet numbers count b = number_for numbers b < count
+
+-- the bits of a gate have nets
+pub record HasNets (numbers : List ℕ) (count : ℕ) (g : Gate ℕ) : Type 0 where
+  pub out : HasNet numbers count g.out
+  pub ins : All (HasNet numbers count) g.ins
+
+-- and those of a flip-flop
+abbrev pub HasBothNets : List ℕ → ℕ → Clocked → Type 0
+HasBothNets numbers count f = HasNet numbers count f.q × HasNet numbers count f.d
+
+-- the bits of a gate whose output is flagged have nets
+abbrev pub HasNetsWhereFlagged : List ℕ → ℕ → List Bool → Gate ℕ → Type 0
+HasNetsWhereFlagged numbers count flags g = is_marked flags g.out ≡ true → HasNets numbers count g
 
 -- the bit is the clock's
 abbrev pub is_clock_bit : Option ℕ → ℕ → Bool

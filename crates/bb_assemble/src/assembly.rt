@@ -1,21 +1,21 @@
 //! The named netlist of what items make.
 //!
 //! Variables go into a builder in their order, each with the nets of its kept bits, so that a net's number is the place of its bit
-//! among the kept ones. A builder refuses nothing here, and no test on the way fails, since names differ, nets are few, each has its
-//! driver, and what a kept net reads is kept. That is argued and not proved, so a refusal would be answered as want of memory, the one
-//! answer that says nothing of the netlist.
+//! among the kept ones. All that a kept gate or a flip-flop reads or drives is kept, and arities hold. That a builder has room, and
+//! refuses no name and no driver, is not shown here: such a refusal would be answered as want of memory, the one answer that says
+//! nothing of the netlist.
 
 ghost use Rattle.std.specs.Prelude.{◌≡◌, ◌<◌, ◌≤◌, ◌+◌, ◌-◌, ◌^◌, ◌∷◌, [], IfOk, IfSome, OnOk, Some, None, ℕ, All, true, not, map, filter, length, slice_get};
 ghost use Rattle.std.specs.Option.{ForSome};
 ghost use Rattle.bb_base.specs.Variables.{IsEntry, IsRange, IsBit, is_port, is_input, range_width, bit_at, bit_count};
-ghost use Rattle.bb_netlist.specs.Net.{renamed_gate};
+ghost use Rattle.bb_netlist.specs.Net.{renamed_gate, HasArity};
 ghost use Rattle.bb_net.specs.Named.{IsNamed};
 ghost use Rattle.bb_net.specs.Building.{MayClock, port_bits, with_gates, with_flops};
 ghost use Rattle.bb_drive.specs.Nets.{nets, driver_fault};
 ghost use Rattle.bb_drive.specs.Clock.{clock_of, clock_fault, is_data};
 ghost use Rattle.bb_assemble.specs.NamedOf.{named_of};
 ghost use Rattle.bb_drive.specs.Within.{IsWithin, IsGateWithin, IsFlopWithin};
-ghost use Rattle.bb_assemble.specs.Assembling.{ArePortsFirst, number_for, is_kept, is_clock_bit, bit_place, kept_bits, with_names, Adds, AreAdded, KeepsPorts, numbered_flop};
+ghost use Rattle.bb_assemble.specs.Assembling.{ArePortsFirst, number_for, is_kept, is_clock_bit, bit_place, kept_bits, with_names, Adds, AreAdded, KeepsPorts, numbered_flop, HasNets, HasNetsWhereFlagged, HasBothNets};
 ghost use Rattle.bb_drive.specs.Origins.{is_marked};
 
 use crate::numbers::{nets_of, numbers_of};
@@ -23,7 +23,7 @@ use bb_base::{Name, Role, Variable};
 use bb_drive::{Clock, Clocked, Work};
 use bb_fault::range_width;
 use bb_net::{Builder, Named};
-use bb_netlist::{Gate, NetId};
+use bb_netlist::{Gate, NetFault, NetId};
 use indexmap::IndexMap;
 use std::alloc::{AllocError, Global};
 
@@ -135,7 +135,14 @@ fn add_variable(
     }
 }
 
-/// Adds a gate over numbers of nets, unless one of its bits isn't kept.
+/// Want of memory, where a builder's fault is that.
+fn only_memory(fault: NetFault) -> AllocError
+    requires { fault ≡ NetFault.NoMemory }
+{
+    AllocError
+}
+
+/// Adds a gate over numbers of nets.
 fn add_gate(
     alloc: Global,
     builder: &mut Builder,
@@ -146,16 +153,16 @@ fn add_gate(
     requires names { count ≡ length builder.old.names }
     requires few { length builder.old.netlist.gates < 2 ^ 32 - 1 }
     requires within { IsGateWithin (length numbers.now) gate.now }
+    requires nets { HasNets numbers.now count gate.now }
+    requires arity { HasArity gate.now }
     ensures { OnOk result (builder.new ≡ with_gates builder.old (renamed_gate (number_for numbers.now) gate.now ∷ [])) }
 {
     let out = numbers[gate.out.0 as usize];
-    if out >= count {
-        return Err(AllocError);
-    }
-    let ins = nets_of(alloc, gate.ins.as_slice(), numbers, count)?;
+    let ins = nets_of(alloc, gate.ins.as_slice(), numbers)?;
     match builder.gate(gate.op, NetId(out), &ins) {
         Ok(()) => Ok(()),
-        Err(_) => Err(AllocError),
+        // The gate has as many inputs as its operator takes.
+        Err(fault) => Err(only_memory(fault)),
     }
 }
 
@@ -172,6 +179,8 @@ fn add_gates(
     requires none { builder.old.netlist.gates ≡ [] }
     requires within { All (IsGateWithin (length numbers.now)) gates.now }
     requires flags { length numbers.now ≤ length flags.now }
+    requires nets { All (HasNetsWhereFlagged numbers.now count flags.now) gates.now }
+    requires arities { All HasArity gates.now }
     ensures { OnOk result (builder.new ≡ with_gates builder.old (map (renamed_gate (number_for numbers.now)) (filter (λ g. is_marked flags.now g.out) gates.now))) }
 {
     if gates.len() >= u32::MAX as usize {
@@ -185,7 +194,7 @@ fn add_gates(
     Ok(())
 }
 
-/// Adds the flip-flops over numbers of nets, unless one of their bits isn't kept.
+/// Adds the flip-flops over numbers of nets.
 fn add_flops(
     builder: &mut Builder,
     flops: &[Clocked],
@@ -195,6 +204,7 @@ fn add_flops(
     requires names { count ≡ length builder.old.names }
     requires none { builder.old.netlist.flops ≡ [] }
     requires within { All (IsFlopWithin (length numbers.now)) flops.now }
+    requires nets { All (HasBothNets numbers.now count) flops.now }
     ensures { OnOk result (builder.new ≡ with_flops builder.old (map (numbered_flop (number_for numbers.now)) flops.now)) }
 {
     if flops.len() >= u32::MAX as usize {
@@ -203,9 +213,6 @@ fn add_flops(
     for flop in flops {
         let q = numbers[flop.q.0 as usize];
         let d = numbers[flop.d.0 as usize];
-        if q >= count || d >= count {
-            return Err(AllocError);
-        }
         builder.flop(NetId(q), NetId(d))?;
     }
     Ok(())
@@ -284,6 +291,8 @@ pub fn assemble(
     requires data { (b : ℕ) → b < work.now.fresh → slice_get clock.now.data.items b ≡ Some (is_data work.now b) }
     requires entries { All IsEntry vars.entries }
     requires ports_first { ArePortsFirst vars.entries }
+    requires total { bit_count vars.entries ≡ work.now.fresh }
+    requires arities { All HasArity work.now.gates }
     ensures named { IfOk result (λ named. named ≡ named_of name vars.entries work.now) }
     ensures valid { OnOk result (IsNamed (named_of name vars.entries work.now)) }
 {

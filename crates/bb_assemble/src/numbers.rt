@@ -57,24 +57,18 @@ fn put_numbers(numbers: &mut [u32], kept: &[u32])
     }
 }
 
-/// The nets of bits, unless one of them isn't kept.
+/// The nets of bits.
 pub(crate) fn nets_of(
     alloc: Global,
     bits: &[NetId],
     numbers: &[u32],
-    count: u32,
 ) -> Result<Vec<NetId>, AllocError>
     requires within { All (λ b. b < length numbers.now) bits.now }
-    ensures nets { IfOk result (λ nets. nets.items ≡ map (number_for numbers.now) bits.now) }
-    ensures kept { IfOk result (λ nets. All (λ net. net < count) nets.items) }
+    ensures { IfOk result (λ nets. nets.items ≡ map (number_for numbers.now) bits.now) }
 {
     let mut nets = Vec::new(alloc);
     for bit in bits {
-        let net = numbers[bit.0 as usize];
-        if net >= count {
-            return Err(AllocError);
-        }
-        nets.push(NetId(net))?;
+        nets.push(NetId(numbers[bit.0 as usize]))?;
     }
     Ok(nets)
 }

@@ -7,3 +7,4 @@ pub mod MadeNames
 pub mod MarkLaws
 pub mod OriginLaws
 pub mod Tallied
+pub mod WayBack

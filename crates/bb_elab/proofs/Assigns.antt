@@ -104,7 +104,7 @@ targets-length table [] = refl
 targets-length table (r ∷ left) =
     length-append (ref_bits table r) (flat_map (ref_bits table) left) ∙ (λ i. ref-length table r i + targets-length table left i)
 
-agreed : (line : ℕ) (b : Bool) → differs line b ≡ None → b ≡ true
+pub agreed : (line : ℕ) (b : Bool) → differs line b ≡ None → b ≡ true
 agreed line true h = refl
 agreed line false h = cc
 
@@ -160,7 +160,7 @@ plain-front table (suc n) (e ∷ es) h = go (is_plain e) refl h (plain-front tab
     go true p k ih = omega (arith, plain-nets table e p, ih k)
     go false p k ih = cc
 
-right-terms : (line : ℕ) (b : Bool) (f : Option ElabFault) → cond b f (Some (BadPins line)) ≡ None → b ≡ true
+pub right-terms : (line : ℕ) (b : Bool) (f : Option ElabFault) → cond b f (Some (BadPins line)) ≡ None → b ≡ true
 right-terms line true f h = refl
 right-terms line false f h = cc
 

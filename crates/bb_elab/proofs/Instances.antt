@@ -39,7 +39,7 @@ last-width [] = refl
 last-width (a ∷ rest) = sym (width_is a)
 
 -- a terminal without a fault is one net
-terminal-length : (table : List Entry) (line : ℕ) (steps : List Step) (w : Work) → expr_fault table line 1 steps ≡ None → length (terminal_made table steps w).0 ≡ 1
+pub terminal-length : (table : List Entry) (line : ℕ) (steps : List Step) (w : Work) → expr_fault table line 1 steps ≡ None → length (terminal_made table steps w).0 ≡ 1
 terminal-length table line steps w h =
     let made = steps_made table steps [] w in
     grounded-length (last_value made.0) made.1 ∙ (last-width made.0 ∙ (ap (λ z. width (last_size z)) (all-counted table steps [] w).sizes ∙ fine-width table line 1 steps h))
@@ -190,15 +190,15 @@ pub record IsRow (kind : Kind) : Type 0 where
   pub apart : list_all (λ n. not (bytes_eq kind.out n)) kind.ins ≡ true
   pub placed : (no_place kind.places || list_all (has_name kind.places) (kind.out ∷ kind.ins)) ≡ true
 
-abbrev AllRows : List (List ℕ × Kind) → Type 0
+abbrev pub AllRows : List (List ℕ × Kind) → Type 0
 AllRows [] = Unit {0}
 AllRows (r ∷ rows) = IsRow r.1 × AllRows rows
 
-all_rows : AllRows kinds
+pub all_rows : AllRows kinds
 all_rows =
     (record { count = refl; apart = refl; placed = refl }, (record { count = refl; apart = refl; placed = refl }, (record { count = refl; apart = refl; placed = refl }, (record { count = refl; apart = refl; placed = refl }, (record { count = refl; apart = refl; placed = refl }, (record { count = refl; apart = refl; placed = refl }, (record { count = refl; apart = refl; placed = refl }, (record { count = refl; apart = refl; placed = refl }, (record { count = refl; apart = refl; placed = refl }, (record { count = refl; apart = refl; placed = refl }, (record { count = refl; apart = refl; placed = refl }, (record { count = refl; apart = refl; placed = refl }, (record { count = refl; apart = refl; placed = refl }, tt)))))))))))))
 
-row_of : (test : List ℕ → Bool) (rows : List (List ℕ × Kind)) (kind : Kind) → AllRows rows → lookup test rows ≡ Some kind → IsRow kind
+pub row_of : (test : List ℕ → Bool) (rows : List (List ℕ × Kind)) (kind : Kind) → AllRows rows → lookup test rows ≡ Some kind → IsRow kind
 row_of test [] kind h e = cc
 row_of test (r ∷ rows) kind h e = go (test r.0) e (row_of test rows kind h.1)
   where
@@ -229,11 +229,11 @@ inputs-apart kind (m ∷ names) n h k = go (bytes_eq n m) (bytes_eq kind.out m) 
         clash e = cc
 
 -- the nets of inputs that are given and aren't the output
-abbrev OneEach : List (List ℕ) → Type 0
+abbrev pub OneEach : List (List ℕ) → Type 0
 OneEach [] = Unit {0}
 OneEach (ns ∷ others) = (length ns ≡ 1) × OneEach others
 
-one-each :
+pub one-each :
     (table : List Entry) (line : ℕ) (kind : Kind) (pins : List Pin) (w : Work) (names : List (List ℕ)) → list_all (λ n. not (bytes_eq kind.out n)) names ≡ true → list_all (is_given pins) names ≡ true
     → first_answer (pin_fault table line) pins ≡ None → OneEach (map (nets_of (pins_made table kind pins w).0) names)
 one-each table line kind pins w [] a g f = tt
@@ -286,7 +286,7 @@ placed-nets table [] (e ∷ terms) h = cc
 placed-nets table (n ∷ names) [] h = cc
 placed-nets table (n ∷ names) (e ∷ terms) h = ap (λ z. terminal_nets table e + z) (placed-nets table names terms (omega (arith, h)))
 
-placed-fault :
+pub placed-fault :
     (table : List Entry) (line : ℕ) (names : List (List ℕ)) (terms : List (List Step)) → length terms ≡ length names
     → first_answer (pin_fault table line) (zip names (map (λ e. Some e) terms)) ≡ first_answer (expr_fault table line 1) terms
 placed-fault table line [] [] h = refl
@@ -303,14 +303,14 @@ placed-given (m ∷ names) (e ∷ terms) n h k = go (bytes_eq n m) k (placed-giv
     go true k ih = refl
     go false k ih = ih k
 
-placed-all : (places names : List (List ℕ)) (terms : List (List Step)) → length terms ≡ length places → list_all (has_name places) names ≡ true → list_all (is_given (zip places (map (λ e. Some e) terms))) names ≡ true
+pub placed-all : (places names : List (List ℕ)) (terms : List (List Step)) → length terms ≡ length places → list_all (has_name places) names ≡ true → list_all (is_given (zip places (map (λ e. Some e) terms))) names ≡ true
 placed-all places [] terms h k = refl
 placed-all places (n ∷ names) terms h k =
     (λ i. placed-given places terms n h (both-first (has_name places n) (list_all (has_name places) names) k) i && list_all (is_given (zip places (map (λ e. Some e) terms))) names)
     ∙ placed-all places names terms h (both-second (has_name places n) (list_all (has_name places) names) k)
 
 -- a kind that may be connected in order has all its pins among its places
-some-place : (places : List (List ℕ)) (b : Bool) (n : ℕ) → nat_lt 0 n ≡ true → n ≡ length places → (no_place places || b) ≡ true → b ≡ true
+pub some-place : (places : List (List ℕ)) (b : Bool) (n : ℕ) → nat_lt 0 n ≡ true → n ≡ length places → (no_place places || b) ≡ true → b ≡ true
 some-place [] b n h e k = absurd (omega (arith, less 0 n h, e))
   where
     less : (a b : ℕ) → nat_lt a b ≡ true → a < b
@@ -335,11 +335,11 @@ by-places table line kind terms w row r f =
     equal : (a b : ℕ) → (a == b) ≡ true → a ≡ b
     equal a b h = search (rules, h)
 
-right-conns : (line : ℕ) (b : Bool) (f : Option ElabFault) → cond b f (Some (BadPins line)) ≡ None → b ≡ true
+pub right-conns : (line : ℕ) (b : Bool) (f : Option ElabFault) → cond b f (Some (BadPins line)) ≡ None → b ≡ true
 right-conns line true f h = refl
 right-conns line false f h = cc
 
-fine-conns : (line : ℕ) (b : Bool) (f : Option ElabFault) → cond b f (Some (BadPins line)) ≡ None → f ≡ None
+pub fine-conns : (line : ℕ) (b : Bool) (f : Option ElabFault) → cond b f (Some (BadPins line)) ≡ None → f ≡ None
 fine-conns line true f h = h
 fine-conns line false f h = cc
 

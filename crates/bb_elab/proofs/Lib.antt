@@ -7,3 +7,6 @@ pub mod Operators
 pub mod PortLaws
 pub mod Rows
 pub mod WithinLaws
+pub mod NameLaws
+pub mod Arities
+pub mod DenotedLaws

@@ -164,7 +164,7 @@ width_some : (range : Option (ℕ × ℕ)) → 1 ≤ range_width range
 width_some None = omega arith
 width_some (Some r) = omega arith
 
-variables_few : (table : List Entry) → length table ≤ bit_count table
+pub variables_few : (table : List Entry) → length table ≤ bit_count table
 variables_few [] = omega arith
 variables_few (v ∷ table) = omega (arith, width_some v.1.range, variables_few table)
 

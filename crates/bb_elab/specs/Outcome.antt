@@ -2,7 +2,7 @@
 use Rattle.std.specs.Prelude.{◌≡◌, ◌⊎◌, ℕ, ◌^◌, ◌-◌, min, Bool, List, [], ◌∷◌, length, Option, Some, None, slice_get, Result, Ok, Err}
 use Rattle.std.specs.Option.{option_or}
 use Rattle.bb_base.specs.Variables.{Entry}
-use Rattle.bb_net.specs.Named.{Named, IsNamed}
+use Rattle.bb_net.specs.Named.{Named}
 use Rattle.bb_netlist.specs.Order.{IsLoop, HasOrder}
 use Rattle.bb_parse.specs.declared.syntax.Module.{Module}
 use Rattle.bb_fault.specs.declared.fault.ElabFault.{ElabFault}
@@ -50,5 +50,5 @@ pub record IsLooped (m : Module) (fault : ElabFault) : Type 0 where
 
 -- what elaboration of a module gives: the netlist that it denotes, or its first fault. A netlist with a loop is one but for its order.
 abbrev pub IsOutcome : Bool → Module → Result Named ElabFault → Type 0
-IsOutcome own m (Ok named) = (first_fault own m ≡ None) × (named ≡ denoted m) × IsNamed named × HasOrder named.netlist.gates
-IsOutcome own m (Err fault) = (first_fault own m ≡ Some fault) ⊎ ((first_fault own m ≡ None) × IsNamed (denoted m) × IsLooped m fault)
+IsOutcome own m (Ok named) = (first_fault own m ≡ None) × (named ≡ denoted m) × HasOrder named.netlist.gates
+IsOutcome own m (Err fault) = (first_fault own m ≡ Some fault) ⊎ ((first_fault own m ≡ None) × IsLooped m fault)

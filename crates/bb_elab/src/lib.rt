@@ -2,7 +2,8 @@
 //!
 //! - `specs/Outcome.antt` says what a module denotes, a named netlist or its first fault: variables, gates in the text's order,
 //!   drivers, the clock and loops.
-//! - `elaborate` answers exactly that: the named netlist and the order of its gates, or the first fault. A module has one outcome.
+//! - `elaborate` answers exactly that: the named netlist and the order of its gates, or the first fault.
+//! - Each module of a text has exactly one outcome, and what one without a fault but a loop denotes is a named netlist.
 //! - `text_fault` answers the first fault of names, declarations, ports, cells, pins, selects, widths and the number of bits, before
 //!   any gate is made. The nets that it counts are those that the gates then made have.
 #![tactic(auto)]
@@ -12,5 +13,5 @@ mod outcome;
 
 pub use bb_fault::ElabFault;
 pub use bb_width::text_fault;
-pub use laws::{counted_nets_are_made, one_outcome};
+pub use laws::{counted_nets_are_made, denotes_a_netlist, has_an_outcome, one_outcome};
 pub use outcome::elaborate;

@@ -1,8 +1,9 @@
 //! Elaboration: the netlist that a module denotes, or its first fault.
 
 ghost use Rattle.std.specs.Prelude.{◌≡◌, ◌≢◌, ◌<◌, IfOk, IfErr, OnOk, Ok, Err, None, Some, All, flat_map, length};
-ghost use Rattle.bb_base.specs.Variables.{IsEntry};
+ghost use Rattle.bb_base.specs.Variables.{IsEntry, bit_count};
 ghost use Rattle.bb_net.specs.Named.{IsNamed, net_text};
+ghost use Rattle.bb_netlist.specs.Net.{HasArity};
 ghost use Rattle.bb_netlist.specs.Order.{IsOrder};
 ghost use Rattle.bb_parse.specs.Sound.{IsSoundModule};
 ghost use Rattle.bb_fault.specs.declared.fault.ElabFault.TheVariants.{NoMemory};
@@ -69,6 +70,8 @@ fn wired(
     requires within { IsWithin work.now }
     requires entries { All IsEntry vars.entries }
     requires ports_first { ArePortsFirst vars.entries }
+    requires total { bit_count vars.entries ≡ work.now.fresh }
+    requires arities { All HasArity work.now.gates }
     ensures named { IfOk result (λ found. IfOk found (λ named. named ≡ named_of name vars.entries work.now)) }
     ensures valid { IfOk result (λ found. OnOk found (IsNamed (named_of name vars.entries work.now))) }
     ensures fine { IfOk result (λ found. OnOk found (net_fault vars.entries work.now ≡ None)) }

@@ -209,7 +209,7 @@ module _ (a : Named) (h : IsNamed a) where
   denoted_order order = (order.0, subst (λ (z : Named). IsOrder z.netlist.gates order.0) (sym denoted_is) (renumbered_order a (names a.clock) (rho a.clock) h (numbers a.clock refl) order.0 order.1))
 
   pub elaborated : (own : Bool) → IsElaborable own a → IsOutcome own (spelled_module (design_of a)) (Ok (denoted (spelled_module (design_of a))))
-  elaborated own fits = (no_fault own fits.names fits.bits, refl, denoted_named, denoted_order fits.order)
+  elaborated own fits = (no_fault own fits.names fits.bits, refl, denoted_order fits.order)
 
   -- nets are no more than bits
   pub nets_few : length a.names ≤ bit_count a.variables

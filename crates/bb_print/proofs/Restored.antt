@@ -54,7 +54,7 @@ module _ (own : Bool) (a : Named) (h : IsNamed a) (fits : IsElaborable own a) wh
   one_outcome (Ok b) o = ap Ok o.1
   one_outcome (Err fault) (inl e) = cc (sym e ∙ no_fault a h own fits.names fits.bits)
   one_outcome (Err fault) (inr e) =
-      let loop : IsLooped syntax fault = e.2 in
+      let loop : IsLooped syntax fault = e.1 in
       let order = denoted_order a h fits.order in
       absurd (no_cycle (denoted syntax).netlist.gates order.0 loop.nets order.1 (loop_cycles (denoted syntax).netlist.gates loop.nets loop.is_loop))
 

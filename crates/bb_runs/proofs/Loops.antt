@@ -4,7 +4,7 @@ use Rattle.std.proofs.lemmas.Bool.Decides.{nat_tests}
 use Rattle.std.proofs.lemmas.List.Elements.{recursion_from_All}
 use Rattle.std.proofs.lemmas.Option.{slice_get_within, get_or_from_slice_get}
 use Rattle.std.proofs.lemmas.List.{drop_at}
-use Rattle.std.specs.Prelude.{Contains, AllPairs}
+use Rattle.std.specs.Prelude.{Contains, AllPairs, All}
 use Rattle.bb_netlist.specs.Net.{Gate, Netlist, driven, times, IsNetlist}
 use Rattle.bb_netlist.specs.Order.{IsFirstStuck, IsLeastStuck, LeadsTo, BeginsWith, IsLoop, IsCycle}
 use Rattle.bb_base.proofs.Lists.{all_map, all_front, all_back}
@@ -14,6 +14,14 @@ use Rattle.bb_netlist.proofs.GateLemmas.{stands_once, out_at, outs_times}
 use Rattle.bb_base.proofs.Distinct.{one_place}
 
 -- one driver ------------------------------------------------------------
+
+-- each net has one driver, and no other number is driven
+pub record AreDrivenOnce (n : Netlist ℕ) : Type 0 where
+  pub one_driver : (net : ℕ) → net < length (driven n) → times net (driven n) ≡ 1
+  pub drives_nets : All (λ net. net < length (driven n)) (driven n)
+
+pub driven_once : (n : Netlist ℕ) → IsNetlist n → AreDrivenOnce n
+driven_once n is = record { one_driver = is.one_driver; drives_nets = is.drives_nets }
 
 -- gates that drive one net, which is driven once, are one
 one_gate :
@@ -38,7 +46,7 @@ one_gate (x ∷ gates) net (suc i) (suc j) f g once at drives there also =
     one_gate gates net i j f g fewer at drives there also
 
 -- what a gate drives is a net
-pub gate_drives : (n : Netlist ℕ) (g : Gate ℕ) → IsNetlist n → Contains n.gates g → g.out < length (driven n)
+pub gate_drives : (n : Netlist ℕ) (g : Gate ℕ) → AreDrivenOnce n → Contains n.gates g → g.out < length (driven n)
 gate_drives n g is there =
     let below = recursion_from_All (λ m. m < length (driven n)) (driven n) is.drives_nets in
     let outs = all_map (λ m. m < length (driven n)) (λ (x : Gate ℕ). x.out < length (driven n)) (λ (x : Gate ℕ). x.out) (λ x h. h) n.gates
@@ -47,7 +55,7 @@ gate_drives n g is there =
     at_place (λ (x : Gate ℕ). x.out < length (driven n)) n.gates at.0 g outs at.1
 
 -- gates of a netlist that drive one net are one
-pub same_gate : (n : Netlist ℕ) (net : ℕ) (f g : Gate ℕ) → IsNetlist n → Contains n.gates f → f.out ≡ net → Contains n.gates g → g.out ≡ net → f ≡ g
+pub same_gate : (n : Netlist ℕ) (net : ℕ) (f g : Gate ℕ) → AreDrivenOnce n → Contains n.gates f → f.out ≡ net → Contains n.gates g → g.out ≡ net → f ≡ g
 same_gate n net f g is there drives also same =
     let within : net < length (driven n) = subst (λ m. m < length (driven n)) drives (gate_drives n f is there) in
     let at = place_of n.gates f there in
@@ -57,7 +65,7 @@ same_gate n net f g is there drives also same =
 -- one walk --------------------------------------------------------------
 
 -- the first stuck input of a net is one
-next_stuck : (n : Netlist ℕ) (net x y : ℕ) → IsNetlist n → IsFirstStuck n.gates net x → IsFirstStuck n.gates net y → x ≡ y
+next_stuck : (n : Netlist ℕ) (net x y : ℕ) → AreDrivenOnce n → IsFirstStuck n.gates net x → IsFirstStuck n.gates net y → x ≡ y
 next_stuck n net x y is a b = by (nat_lt a.place b.place) refl (nat_lt b.place a.place) refl
   where
     same : a.gate ≡ b.gate
@@ -165,8 +173,8 @@ one_whole step P one start (a ∷ ps) (b ∷ qs) f g i j begins also to_f to_g a
 same_back : (before xs other ys : List ℕ) → before ++ xs ≡ other ++ ys → length before ≡ length other → xs ≡ ys
 same_back before xs other ys whole place = sym (drop_at before xs (length before) refl) ∙ (ap (drop (length before)) whole ∙ drop_at other ys (length before) (sym place))
 
--- two loops of one netlist are one
-pub one_loop_of : (n : Netlist ℕ) (xs ys : List ℕ) → IsNetlist n → IsLoop n.gates xs → IsLoop n.gates ys → xs ≡ ys
+-- two loops of gates that drive each net once are one
+pub one_loop_of : (n : Netlist ℕ) (xs ys : List ℕ) → AreDrivenOnce n → IsLoop n.gates xs → IsLoop n.gates ys → xs ≡ ys
 one_loop_of n [] ys is l k = absurd l.again
 one_loop_of n (x ∷ xs) [] is l k = absurd k.again
 one_loop_of n (x ∷ xs) (y ∷ ys) is l k = same_back l.before (x ∷ xs) k.before (y ∷ ys) walk.nets place
@@ -185,6 +193,6 @@ one_loop_of n (x ∷ xs) (y ∷ ys) is l k = same_back l.before (x ∷ xs) k.bef
     place = place_once (l.before ++ x ∷ xs) (length l.before) (length k.before) l.first l.met_once at (ap (λ zs. slice_get zs (length k.before)) walk.nets ∙ (there ∙ ap Some (sym walk.last)))
 
 -- the first net of a cycle is a net
-pub cycle_within : (n : Netlist ℕ) (net : ℕ) (more : List ℕ) → IsNetlist n → IsCycle n.gates (net ∷ more) → net < length (driven n)
+pub cycle_within : (n : Netlist ℕ) (net : ℕ) (more : List ℕ) → AreDrivenOnce n → IsCycle n.gates (net ∷ more) → net < length (driven n)
 cycle_within n net [] is c = subst (λ m. m < length (driven n)) c.drives (gate_drives n c.gate is c.stands)
 cycle_within n net (m ∷ more) is c = subst (λ p. p < length (driven n)) c.0.drives (gate_drives n c.0.gate is c.0.stands)

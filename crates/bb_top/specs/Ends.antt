@@ -1,12 +1,13 @@
 -- How a call may end, and what the files then hold. The lines and the limit are this project's own.
-use Rattle.std.specs.Prelude.{◌≡◌, ◌<◌, ◌≤◌, ℕ, false, List, length, codes, Option, Some, None, Err}
+use Rattle.std.specs.Prelude.{◌≡◌, ◌<◌, ◌≤◌, ℕ, false, List, length, codes, Option, Some, None, Result, Ok, Err}
+use Rattle.bb_net.specs.Named.{Named}
 use Rattle.bb_edge.specs.Told.{Told, Held, Shows, SameBut, KeepsOrStarts, AppendsFront}
 use Rattle.bb_read.specs.Words.{Command, command_of, output_name}
 use Rattle.bb_top.specs.declared.refusal.Refusal.{Refusal}
 use Rattle.bb_top.specs.declared.refusal.Refusal.TheVariants.{TooLong, Lex, Parse, Elab}
 use Rattle.bb_parse.specs.Texts.{HasLexFault, HasParseFault}
 use Rattle.bb_elab.specs.Denotes.{ElaboratesTo}
-use Rattle.bb_top.specs.Reads.{IsMade}
+use Rattle.bb_top.specs.Reads.{IsReadable, IsMade}
 use Rattle.bb_top.specs.Refusals.{refusal_line}
 
 -- the most bytes of the input
@@ -27,6 +28,11 @@ IsRefused TooLong text = file_limit < length text
 IsRefused (Lex fault) text = (length text ≤ file_limit) × HasLexFault text fault
 IsRefused (Parse fault) text = (length text ≤ file_limit) × HasParseFault text fault
 IsRefused (Elab fault) text = (length text ≤ file_limit) × ElaboratesTo false text (Err fault)
+
+-- what a text comes to: the named netlist that it denotes, or its refusal
+abbrev pub ComesTo : List ℕ → Result Named Refusal → Type 0
+ComesTo text (Ok named) = (length text ≤ file_limit) × IsReadable named text
+ComesTo text (Err refusal) = IsRefused refusal text
 
 -- the call is done: the output file is made of the input's text, and no other file changed
 pub record IsDone (words : List (List ℕ)) (old new : List ℕ → Told) : Type 0 where

@@ -1,13 +1,15 @@
-//! A law about texts, as the contract of a function that does nothing.
+//! Laws about texts, as contracts of functions that do nothing.
 
 ghost use Rattle.std.specs.Prelude.{◌≡◌, ℕ, Bool, List, Result};
 ghost use Rattle.bb_net.specs.Named.{Named};
 ghost use Rattle.bb_fault.specs.declared.fault.ElabFault.{ElabFault as ElabValue};
 ghost use Rattle.bb_elab.specs.Denotes.{ElaboratesTo};
+ghost use Rattle.bb_top.specs.declared.refusal.Refusal.{Refusal as RefusalValue};
+ghost use Rattle.bb_top.specs.Ends.{ComesTo};
 
-use bb_elab::one_outcome;
-use bb_grammar::one_module;
-use bb_lex::one_reading;
+use bb_elab::{has_an_outcome, one_outcome};
+use bb_grammar::{in_range as modules_in_range, one_flaw, one_module};
+use bb_lex::{in_range as tokens_in_range, one_reading};
 
 /// A text denotes one netlist or has one fault at most.
 pub fn one_outcome_of()
@@ -16,4 +18,17 @@ pub fn one_outcome_of()
     one_reading();
     one_module();
     one_outcome();
+}
+
+/// Each text is too long, has a first flaw, has a module with a first fault, or denotes a named netlist, and exactly one of these.
+pub fn one_end_of()
+    ensures some { (text : List ℕ) → (end : Result Named RefusalValue) × ComesTo text end }
+    ensures one { (text : List ℕ) (a b : Result Named RefusalValue) → ComesTo text a → ComesTo text b → a ≡ b }
+{
+    one_reading();
+    tokens_in_range();
+    modules_in_range();
+    one_flaw();
+    has_an_outcome();
+    one_outcome_of();
 }

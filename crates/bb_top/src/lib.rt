@@ -20,7 +20,7 @@ mod top;
 pub use bb_grammar::one_flaw;
 pub use bb_read::ReadFault;
 pub use bb_thin::{ordered_netlists_run, runs_alike};
-pub use laws::one_outcome_of;
+pub use laws::{one_end_of, one_outcome_of};
 pub use named::read_named;
 pub use refusal::Refusal;
 pub use top::bilbo;

@@ -12,8 +12,9 @@ pub(crate) fn make(alloc: Global, named: &NamedNetlist) -> Result<Vec<u8>, Alloc
     requires { IsFew named.now }
     ensures { IfOk result (λ made. (text : List ℕ) → IsReadable named.now text → IsMade text made.items) }
 {
+    // `variables` ensures that both are named netlists.
+    let _known = named.variables();
     let woven = weave_thin(alloc, named)?;
-    // `variables` ensures that it is a named netlist.
     let _count = woven.variables();
     let mut made = Vec::new(alloc);
     append_text(alloc, &woven, &mut made)?;

@@ -1,5 +1,5 @@
 use Rattle.std.proofs.Common.{◌≡◌, ℕ, All, List, length, map, filter, ap, sym, subst, ◌∙◌}
-use Rattle.bb_netlist.specs.Net.{Gate, Flop, renamed_gate}
+use Rattle.bb_netlist.specs.Net.{Gate, Flop, renamed_gate, HasArity}
 use Rattle.bb_net.specs.Named.{Named, IsNamed}
 use Rattle.bb_drive.specs.Work.{Work}
 use Rattle.bb_drive.specs.Nets.{bit_name}
@@ -8,6 +8,9 @@ use Rattle.bb_drive.specs.Within.{IsGateWithin}
 use Rattle.bb_assemble.specs.Assembling.{number_for, is_kept, numbered_flop}
 use Rattle.bb_drive.specs.Origins.{is_marked}
 use Rattle.bb_assemble.proofs.BuiltLaws.{AreFlags, same_flags, flags_long, all_below, all_few, IsNumbered, numbered, keeps_ports, names_kept, names_count, HasParts, parts_of, built, clocked}
+use Rattle.std.proofs.lemmas.List.Elements.{recursion_from_All}
+use Rattle.bb_assemble.proofs.KeptNets.{IsFineWork}
+use Rattle.bb_assemble.proofs.KeptGates.{gates_have, flops_have}
 use Rattle.bb_assemble.proofs.assembly.assemble.Goals as goal
 
 pub numbers_of-requires-clause-within : goal.numbers_of-requires-clause-within
@@ -129,3 +132,27 @@ returns-in-Ok-clause-valid c =
     built c.args.name c.args.vars.entries c.args.work.now c.args.clock.now.bit c.as_slice-flags.result.now c.as_slice-numbers.result.now c.in_ok-nets.count c.deref.result.now c.deref-2.result.now c.add_variables.new.builder.names
     c.add_flops.new.builder c.requires.driven c.requires.clocked c.requires.within c.requires.clock flags numbers c.in_ok-add_variables.ensures.total gates_in flops_in names parts c.in-Ok.ensures.valid in
     subst IsNamed same c.in-Ok.ensures.valid
+
+pub add_gates-requires-clause-nets : goal.add_gates-requires-clause-nets
+add_gates-requires-clause-nets c =
+    let flags : AreFlags c.args.work.now c.as_slice-flags.result.now = same_flags c.args.work.now c.args.clock.now.data.items c.as_slice-flags.result.now c.requires.data c.as_slice-flags.ensures.value in
+    let fresh : c.work.inside.fresh ≡ c.args.work.now.fresh = ap (λ (w : Work). w.fresh) c.work.view_is in
+    let numbers : IsNumbered c.args.vars.entries c.args.work.now c.as_slice-numbers.result.now c.in_ok-nets.count =
+    numbered c.args.vars.entries c.args.work.now c.work.inside.fresh c.args.bits.now c.as_slice-flags.result.now c.in_ok-nets.nets.items c.as_slice-numbers.result.now c.in_ok-nets.count c.in_ok-nets.ensures c.as_slice-numbers.ensures.value fresh
+    c.requires.nets flags in
+    let fine : IsFineWork c.args.vars.entries c.args.work.now = record { drivers = c.requires.driven; clocks = c.requires.clocked; within = c.requires.within; total = c.requires.total } in
+    gates_have c.args.vars.entries c.args.work.now fine (recursion_from_All HasArity c.args.work.now.gates c.requires.arities) c.as_slice-flags.result.now c.as_slice-numbers.result.now c.in_ok-nets.count c.deref.result.now numbers flags
+    (c.deref.ensures.value ∙ ap (λ (w : Work). w.gates) c.work.view_is)
+
+pub add_gates-requires-clause-arities : goal.add_gates-requires-clause-arities
+add_gates-requires-clause-arities c = subst (All HasArity) (sym (c.deref.ensures.value ∙ ap (λ (w : Work). w.gates) c.work.view_is)) c.requires.arities
+
+pub add_flops-requires-clause-nets : goal.add_flops-requires-clause-nets
+add_flops-requires-clause-nets c =
+    let flags : AreFlags c.args.work.now c.as_slice-flags.result.now = same_flags c.args.work.now c.args.clock.now.data.items c.as_slice-flags.result.now c.requires.data c.as_slice-flags.ensures.value in
+    let fresh : c.work.inside.fresh ≡ c.args.work.now.fresh = ap (λ (w : Work). w.fresh) c.work.view_is in
+    let numbers : IsNumbered c.args.vars.entries c.args.work.now c.as_slice-numbers.result.now c.in_ok-nets.count =
+    numbered c.args.vars.entries c.args.work.now c.work.inside.fresh c.args.bits.now c.as_slice-flags.result.now c.in_ok-nets.nets.items c.as_slice-numbers.result.now c.in_ok-nets.count c.in_ok-nets.ensures c.as_slice-numbers.ensures.value fresh
+    c.requires.nets flags in
+    let fine : IsFineWork c.args.vars.entries c.args.work.now = record { drivers = c.requires.driven; clocks = c.requires.clocked; within = c.requires.within; total = c.requires.total } in
+    flops_have c.args.vars.entries c.args.work.now fine c.as_slice-numbers.result.now c.in_ok-nets.count c.deref-2.result.now numbers (c.deref-2.ensures.value ∙ ap (λ (w : Work). w.flops) c.work.view_is)

@@ -1,6 +1,12 @@
-use Rattle.std.proofs.Common.{sym, subst, All}
-use Rattle.bb_base.specs.Variables.{IsEntry}
+use Rattle.std.proofs.Common.{sym, subst, All, ap, ◌∙◌}
+use Rattle.bb_base.specs.Variables.{IsEntry, bit_count}
+use Rattle.std.proofs.lemmas.List.Elements.{All-from_recursion}
+use Rattle.bb_netlist.specs.Net.{HasArity}
+use Rattle.bb_drive.specs.Work.{Work}
 use Rattle.bb_drive.specs.Within.{IsWithin}
+use Rattle.bb_elab.specs.Outcome.{work_in}
+use Rattle.bb_elab.proofs.NameLaws.{bits_are_all}
+use Rattle.bb_elab.proofs.Arities.{module-fits}
 use Rattle.bb_assemble.specs.Assembling.{ArePortsFirst}
 use Rattle.bb_elab.proofs.PortLaws.{fine_text, all_entries, ports_stand_first}
 use Rattle.bb_elab.proofs.WithinLaws.{work_within}
@@ -15,3 +21,12 @@ wired-requires-clause-entries c =
 
 pub wired-requires-clause-ports_first : goal.wired-requires-clause-ports_first
 wired-requires-clause-ports_first c = subst ArePortsFirst (sym c.in_ok-vars.ensures.vars) (ports_stand_first c.args.module.now (fine_text c.args.own c.args.module.now c.requires.fine).ports)
+
+pub wired-requires-clause-total : goal.wired-requires-clause-total
+wired-requires-clause-total c =
+    ap bit_count c.in_ok-vars.ensures.vars ∙ bits_are_all c.args.module.now (fine_text c.args.own c.args.module.now c.requires.fine) ∙ sym (ap (λ (w : Work). w.fresh) c.in_ok-vars.ensures.work)
+
+pub wired-requires-clause-arities : goal.wired-requires-clause-arities
+wired-requires-clause-arities c =
+    subst (λ (w : Work). All HasArity w.gates) (sym c.in_ok-vars.ensures.work)
+    (All-from_recursion HasArity (work_in c.args.module.now).gates (module-fits c.args.module.now c.requires.sound (fine_text c.args.own c.args.module.now c.requires.fine).parts))
