@@ -12,6 +12,10 @@ mod canonical;
 #[cfg(test)]
 mod columns;
 #[cfg(test)]
+mod cones;
+#[cfg(test)]
+mod cycles;
+#[cfg(test)]
 mod outside;
 #[cfg(test)]
 mod registers;

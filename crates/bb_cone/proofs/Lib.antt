@@ -1,0 +1,5 @@
+pub mod Outcomes
+pub mod PlaceLemmas
+pub mod EntryLemmas
+pub mod StepLemmas
+pub mod TableLemmas

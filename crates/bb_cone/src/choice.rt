@@ -1,0 +1,65 @@
+//! The cuts that leave every gate a narrow support.
+
+ghost use Rattle.std.specs.Prelude.{◌≡◌, ◌≤◌, ℕ, Some, slice_get, nat_eq, IfOk, OnOk, IsErrOf};
+ghost use Rattle.std.specs.Set.{distinct_count};
+ghost use Rattle.std.specs.List.Sorted.{IsPermutation, IsSorted};
+ghost use Rattle.std.specs.Ordering.{nat_cmp};
+ghost use Rattle.bb_netlist.specs.Net.{Gate as GateValue};
+ghost use Rattle.bb_netlist.specs.Order.{IsOrder};
+ghost use Rattle.bb_segment.specs.Cuts.{AreCuts, IsFirstWide};
+
+use crate::CutFault;
+use crate::cutting::{first_state, run};
+use crate::readers::readers_of;
+use crate::sets::check_widths;
+use bb_netlist::{NetId, Netlist, Order};
+use std::alloc::{AllocError, Global};
+
+/// The nets of some numbers.
+fn nets_of(alloc: Global, numbers: &[u32]) -> Result<Vec<NetId>, AllocError>
+    ensures { IfOk result (λ nets. nets.items ≡ numbers.now) }
+{
+    let mut nets = Vec::new(alloc);
+    'numbers: for number in numbers {
+        nets.push(NetId(*number))?;
+    }
+    Ok(nets)
+}
+
+/// The nets of some numbers, in ascending order.
+fn ascending_nets(alloc: Global, numbers: &mut [u32]) -> Result<Vec<NetId>, AllocError>
+    ensures moved { IfOk result (λ nets. IsPermutation numbers.old nets.items) }
+    ensures sorted { IfOk result (λ nets. IsSorted nat_cmp nets.items) }
+{
+    numbers.sort_unstable();
+    nets_of(alloc, numbers)
+}
+
+/// The nets to cut, ascending, so that no gate's support has more than `width` nets.
+///
+/// While some gate's support has, the first such gate in order has the input cut that is no stop and has the most leaves, the least
+/// number among equals. Refused is the first gate by number with more different inputs than the width, before anything is cut.
+pub fn cuts(
+    alloc: Global,
+    netlist: &Netlist,
+    order: &Order,
+    width: u32,
+) -> Result<Vec<NetId>, CutFault>
+    requires order { IsOrder netlist.now.gates order.now }
+    requires width { width ≤ 12 }
+    ensures cuts { IfOk result (λ cuts. AreCuts netlist.now.gates order.now width cuts.items) }
+    ensures narrow { OnOk result ((h : ℕ) (g : GateValue ℕ) → slice_get netlist.now.gates h ≡ Some g → distinct_count nat_eq g.ins ≤ width) }
+    ensures wide { (gate inputs most : ℕ) → IsErrOf result (CutFault.GateTooWide gate inputs most) → IsFirstWide netlist.now.gates width gate inputs }
+    ensures width { (gate inputs most : ℕ) → IsErrOf result (CutFault.GateTooWide gate inputs most) → most ≡ width }
+{
+    let gates = netlist.gates();
+    let nets = netlist.nets();
+    match check_widths(alloc, nets, gates, width) {
+        Ok(()) => {}
+        Err(fault) => return Err(fault),
+    }
+    let readers = readers_of(alloc, nets, gates, order.gates())?;
+    let mut state = first_state(alloc, nets, gates)?;
+    run(alloc, gates, order.gates(), width, &readers, &mut state)?;
+    Ok(ascending_nets(alloc, &mut state.turns)?)
+}

@@ -1,0 +1,4 @@
+pub mod Evaluated
+pub mod Written
+pub mod Picked
+pub mod Settled

@@ -1,0 +1,13 @@
+pub mod Outcomes
+pub mod PathLemmas
+pub mod FunctionLemmas
+pub mod SupportLemmas
+pub mod LeafLemmas
+pub mod ReadLemmas
+pub mod StartLemmas
+pub mod SetLemmas
+pub mod WalkLemmas
+pub mod CutLemmas
+pub mod ShortLemmas
+pub mod ValueLemmas
+pub mod ChangeLemmas

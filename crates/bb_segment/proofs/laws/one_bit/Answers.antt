@@ -1,0 +1,5 @@
+use Rattle.bb_segment.proofs.FunctionLemmas.{one_bit}
+use Rattle.bb_segment.proofs.laws.one_bit.Goals as goal
+
+pub returns : goal.returns
+returns c = one_bit

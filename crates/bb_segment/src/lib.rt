@@ -1,0 +1,24 @@
+//! Segments: where walks back from a net end, and what the gates on the way compute.
+//!
+//! - A path back passes from a net that is no stop to what its gate reads; the leaves of a line are the stops that paths reach.
+//! - `support` answers exactly the leaves, ascending, or how many they are where these are more than 16. It takes no memory.
+//! - What a valuation gives a line is the bit of its segment's function of the bits of its leaves, whatever the gates mean; that
+//!   function gives one bit and no other where gates have an order.
+//! - A netlist has one choice of cuts, and with them no gate's support has more nets than the width. `bb_cone` finds them.
+//!
+//! `specs/Paths.antt` says where a walk leads, `specs/Support.antt` what a support is, `specs/Function.antt` what a line's function
+//! gives, `specs/Change.antt` what a changed gate is, and `specs/Cuts.antt` what is cut.
+#![tactic(auto)]
+
+mod laws;
+mod start;
+mod supports;
+mod walk;
+
+pub use laws::{
+    changes_elsewhere, leaves_by_steps, lines_compute, one_bit, one_choice, one_support,
+    paths_join, short_supports, some_bit,
+};
+pub use start::Start;
+pub use supports::{Wide, is_stop, support};
+pub use walk::Walk;

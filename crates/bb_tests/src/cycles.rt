@@ -1,0 +1,125 @@
+// Rows of cycles, by hand. Nets are numbered in the order in which a text declares them, the clock left out.
+
+ghost use Rattle.std.specs.Prelude.{IfSome};
+ghost use Rattle.bb_netlist.specs.Order.{IsOrder};
+
+use bb_canon::read_canonical;
+use bb_eqn::{cycle, settle};
+use bb_net::Named;
+use bb_netlist::{Order, find_order};
+use std::alloc::Global;
+
+const HALF: &str =
+    "module half (a, b, s, c);\ninput a;\ninput b;\noutput s;\noutput c;\nxor (s, a, b);\nand (c, a, b);\nendmodule\n";
+
+/// The gates stand against their order: `y` reads `m`, and `m` reads `t`.
+const AGAINST: &str =
+    "module row (a, b, c, y);\ninput a;\ninput b;\ninput c;\noutput y;\nwire m;\nwire t;\nbuf (y, m);\nnor (m, c, t);\nnand (t, a, b);\nendmodule\n";
+
+/// A flip-flop that takes its complement.
+const TOGGLE: &str =
+    "module row (ck, q);\ninput ck;\noutput q;\nwire d;\nnot (d, q);\ndff bt_f0 (ck, q, d);\nendmodule\n";
+
+/// Two flip-flops that take each other's bit.
+const SWAP: &str =
+    "module row (ck, p, q);\ninput ck;\noutput p;\noutput q;\ndff bt_f0 (ck, p, q);\ndff bt_f1 (ck, q, p);\nendmodule\n";
+
+/// The netlist of a text, and the order of its gates.
+fn read(alloc: Global, text: &str) -> Option<(Named, Order)>
+    ensures { IfSome result (λ found. IsOrder found.0.netlist.gates found.1) }
+{
+    let Ok(named) = read_canonical(alloc, text.as_bytes()) else {
+        return None;
+    };
+    match find_order(alloc, named.netlist()) {
+        Ok(order) => Some((named, order)),
+        Err(_) => None,
+    }
+}
+
+/// The bits of all nets, and none where lengths differ or memory lacks.
+fn settled(alloc: Global, text: &str, inputs: &[bool], state: &[bool]) -> Option<Vec<bool>> {
+    let (named, order) = read(alloc, text)?;
+    let netlist = named.netlist();
+    if inputs.len() != netlist.inputs().len() || state.len() != netlist.flops().len() {
+        return None;
+    }
+    let Ok(mut values) = vec![in alloc; true; netlist.nets() as usize] else {
+        return None;
+    };
+    settle(netlist, &order, inputs, state, &mut values);
+    Some(values)
+}
+
+/// The same, and the state is left as the cycle leaves it.
+fn cycled(alloc: Global, text: &str, inputs: &[bool], state: &mut [bool]) -> Option<Vec<bool>> {
+    let (named, order) = read(alloc, text)?;
+    let netlist = named.netlist();
+    if inputs.len() != netlist.inputs().len() || state.len() != netlist.flops().len() {
+        return None;
+    }
+    let Ok(mut values) = vec![in alloc; true; netlist.nets() as usize] else {
+        return None;
+    };
+    cycle(netlist, &order, inputs, state, &mut values);
+    Some(values)
+}
+
+/// These are the bits.
+fn are(found: Option<Vec<bool>>, bits: &[bool]) -> bool {
+    match found {
+        Some(values) => values.as_slice() == bits,
+        None => false,
+    }
+}
+
+#[test]
+fn a_cycle_gives_each_net_its_bit(rt: HostRuntime) {
+    let rows: [(&str, &[bool], &[bool]); 8] = [
+        (HALF, &[false, false], &[false, false, false, false]),
+        (HALF, &[false, true], &[false, true, true, false]),
+        (HALF, &[true, false], &[true, false, true, false]),
+        (HALF, &[true, true], &[true, true, false, true]),
+        (
+            AGAINST,
+            &[true, true, false],
+            &[true, true, false, true, true, false],
+        ),
+        (
+            AGAINST,
+            &[true, true, true],
+            &[true, true, true, false, false, false],
+        ),
+        (
+            AGAINST,
+            &[false, true, false],
+            &[false, true, false, false, false, true],
+        ),
+        (
+            AGAINST,
+            &[true, false, true],
+            &[true, false, true, false, false, true],
+        ),
+    ];
+    for (text, inputs, wanted) in rows {
+        assert!(rt;
+            are(settled(rt.alloc(), text, inputs, &[]), wanted),
+            "{text}"
+        );
+    }
+}
+
+#[test]
+fn a_cycle_leaves_the_bits_of_the_ds(rt: HostRuntime) {
+    let alloc = rt.alloc();
+    let mut toggle = [false];
+    assert!(rt; are(cycled(alloc, TOGGLE, &[], &mut toggle), &[false, true]));
+    assert!(rt; toggle == [true]);
+    assert!(rt; are(cycled(alloc, TOGGLE, &[], &mut toggle), &[true, false]));
+    assert!(rt; toggle == [false]);
+    let mut swap = [true, false];
+    assert!(rt; are(cycled(alloc, SWAP, &[], &mut swap), &[true, false]));
+    assert!(rt; swap == [false, true]);
+    assert!(rt; are(cycled(alloc, SWAP, &[], &mut swap), &[false, true]));
+    assert!(rt; swap == [true, false]);
+}
