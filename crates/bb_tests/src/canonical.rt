@@ -1,5 +1,5 @@
 use bb_canon::{CanonFault, read_canonical};
-use bb_spell::append_text;
+use bb_print::print;
 
 const HALF: &str =
     "module half (a, b, s, c);\ninput a;\ninput b;\noutput s;\noutput c;\nxor (s, a, b);\nand (c, a, b);\nendmodule\n";
@@ -34,7 +34,7 @@ fn a_canonical_text_is_read_and_printed_again(rt: HostRuntime) {
         match read_canonical(rt.alloc(), text.as_bytes()) {
             Ok(named) => {
                 let mut out = Vec::new(rt.alloc());
-                assert!(rt; append_text(rt.alloc(), &named, &mut out).is_ok());
+                assert!(rt; print(rt.alloc(), &named, &mut out).is_ok());
                 assert!(rt; out.as_slice() == text.as_bytes(), "{text}");
             }
             Err(_) => panic!(rt; "{text}"),
