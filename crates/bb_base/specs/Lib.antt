@@ -1,5 +1,6 @@
 pub mod Booleans
 pub mod Firsts
+pub mod Places
 pub mod Name
 pub mod NameLaws
 pub mod Words

@@ -5,7 +5,7 @@ use Rattle.std.specs.List.{list_all, flat_map, AllByRecursion}
 use Rattle.bb_netlist.specs.Net.{Gate, Flop, driven, reads, HasArity}
 use Rattle.bb_base.specs.Variables.{Entry}
 use Rattle.bb_net.specs.Named.{Named, IsNamed}
-use Rattle.bb_base.proofs.Lists.{all_front, all_back, all_map, length_map}
+use Rattle.bb_base.proofs.Lists.{all_front, all_back, all_map, all_parts, length_map}
 use Rattle.bb_spell.specs.Canonical.{with_feed}
 use Rattle.bb_spell.specs.TextLines.{is_line_byte, first_line}
 use Rattle.bb_canon.specs.Sections.{declares, states_gate, clocks, NoneFirst}
@@ -55,11 +55,6 @@ module _ {X : Type 0} (says : X → List ℕ → Type 0) (test : List ℕ → Bo
       go [] ls all e = refl
       go (x ∷ xs) [] all e = absurd all
       go (x ∷ xs) (l ∷ ls) all e = cc (sym f ∙ ap first_line e ∙ line_again l (flat_map with_feed (ls ++ others)) (clean x l all.0))
-
--- facts of all items of lists one after another
-all_parts : {X Y : Type 0} (P : Y → Type 0) (f : X → List Y) (xs : List X) → AllByRecursion P (flat_map f xs) → AllByRecursion (λ x. AllByRecursion P (f x)) xs
-all_parts P f [] h = tt
-all_parts P f (x ∷ xs) h = (all_front P (f x) (flat_map f xs) h, all_parts P f xs (all_back P (f x) (flat_map f xs) h))
 
 -- gates
 gate_at : (a : Named) (done left : List (Gate ℕ)) (g : Gate ℕ) → IsNamed a → a.netlist.gates ≡ done ++ g ∷ left → IsGateOf a g

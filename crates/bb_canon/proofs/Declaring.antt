@@ -20,8 +20,8 @@ use Rattle.bb_net.specs.Named.{Named, IsClock, lookup_of}
 use Rattle.bb_canon.specs.Drafting.{indexed_place, may_come, canon_fault}
 use Rattle.bb_canon.specs.Faults.{IsWant}
 use Rattle.bb_canon.proofs.Drafts.{all_pass, lookup_entry}
-use Rattle.bb_canon.proofs.Distincts.{distinct_few}
-use Rattle.bb_canon.proofs.RoleBits.{role_distinct, front_within, port_bits_are, clock_are}
+use Rattle.bb_canon.proofs.Distincts.{alike_few}
+use Rattle.bb_canon.proofs.RoleBits.{role_alike, front_within, port_bits_are, clock_are}
 use Rattle.bb_spell.specs.Limits.{IsBuildable}
 use Rattle.bb_canon.specs.Toward.{IsDeclared, clock_among}
 use Rattle.bb_canon.proofs.BitAgain.{same_number}
@@ -182,7 +182,7 @@ declared_few a n v left name u place h d k placed =
     let bits : List BitName = role_bits is_port a.clock 0 (n.variables ++ v ∷ []) in
     let all : n.names ++ port_bits (length n.variables) u place ≡ bits =
     (λ i. d.names i ++ port_bits (length n.variables) (k i) place) ∙ port_bits_are a.clock place n.variables v placed in
-    let few : length bits ≤ length a.names = distinct_few bits a.names (role_distinct is_port a.clock 0 (n.variables ++ v ∷ [])) (front_within a (n.variables ++ v ∷ []) left h.named (append_assoc n.variables (v ∷ []) left ∙ d.variables)) in
+    let few : length bits ≤ length a.names = alike_few bits a.names (role_alike is_port a.clock 0 (n.variables ++ v ∷ [])) (front_within a (n.variables ++ v ∷ []) left h.named (append_assoc n.variables (v ∷ []) left ∙ d.variables)) in
     let long : length n.names + length (port_bits (length n.variables) u place) ≡ length bits = sym (length-append n.names (port_bits (length n.variables) u place)) ∙ ap length all in
     at_most (length n.names + length (port_bits (length n.variables) u place)) (length bits) (length a.names) net_limit long few h.nets
   where

@@ -12,14 +12,12 @@ use Rattle.bb_base.specs.Operators.{IsArity}
 use Rattle.bb_base.specs.Variables.{Entry, IsBit, is_input, is_port, role_bits, bit_eq}
 use Rattle.bb_net.specs.Named.{Named, IsNamed, IsConsistent, name_of_net, IsClock}
 use Rattle.bb_net.specs.Building.{with_net, with_gate, with_flop, net_limit}
-use Rattle.bb_base.proofs.BitLemmas.{same_bits}
-use Rattle.bb_base.proofs.Lists.{all_front, all_back, all_join, all_map, map_join, map_twice, length_map, same_map_at}
+use Rattle.bb_base.proofs.Lists.{all_front, all_back, all_join, all_map, all_parts, map_join, map_twice, length_map, same_map_at}
 use Rattle.bb_net.proofs.ConsistentLemmas.{net_fits, gate_fits, flop_fits}
 use Rattle.bb_spell.specs.Limits.{IsBuildable}
-use Rattle.bb_canon.specs.Toward.{Distinct, IsDrawn, IsGateOf, IsDeclared, clock_among}
-use Rattle.bb_spell.proofs.Nets.{all_flat}
-use Rattle.bb_canon.proofs.Distincts.{distinct_push, distinct_few, times_stands, stands, any_none}
-use Rattle.bb_canon.proofs.RoleBits.{front_within, role_distinct}
+use Rattle.bb_canon.specs.Toward.{IsDrawn, IsGateOf, IsDeclared, clock_among}
+use Rattle.bb_canon.proofs.Distincts.{alike_push, alike_few, times_stands, stands}
+use Rattle.bb_canon.proofs.RoleBits.{front_within, role_alike}
 
 abbrev none : BitName
 none = record { variable = 0; place = 0 }
@@ -58,7 +56,7 @@ gates_kept n m h kept =
     let outs = all_front (IsNet n) (map (λ p. p.out) n.netlist.gates) (map (λ f. f.q) n.netlist.flops) (all_back (IsNet n) n.netlist.inputs (map (λ p. p.out) n.netlist.gates ++ map (λ f. f.q) n.netlist.flops) nets) in
     let ins = all_front (IsNet n) (flat_map (λ (p : Gate ℕ). p.ins) n.netlist.gates) (map (λ f. f.d) n.netlist.flops) (all_back (IsNet n) n.netlist.outputs (flat_map (λ (p : Gate ℕ). p.ins) n.netlist.gates ++ map (λ f. f.d) n.netlist.flops) reading) in
     two_at (renamed_gate (name_of_net m)) (renamed_gate (name_of_net n)) (λ (p : Gate ℕ). IsNet n p.out) (λ (p : Gate ℕ). AllByRecursion (IsNet n) p.ins) (gate_kept n m kept) n.netlist.gates
-    (all_map (IsNet n) (λ p. IsNet n p.out) (λ p. p.out) (λ p k. k) n.netlist.gates outs) (all_flat (IsNet n) (λ (p : Gate ℕ). p.ins) n.netlist.gates ins)
+    (all_map (IsNet n) (λ p. IsNet n p.out) (λ p. p.out) (λ p k. k) n.netlist.gates outs) (all_parts (IsNet n) (λ (p : Gate ℕ). p.ins) n.netlist.gates ins)
 
 flop_kept : (n m : Named) → ((k : ℕ) → k < length n.names → name_of_net m k ≡ name_of_net n k) → (f : Flop ℕ) → f.q < length n.names → f.d < length n.names → renamed_flop (name_of_net m) f ≡ renamed_flop (name_of_net n) f
 flop_kept n m kept f q d = λ i. record { q = kept f.q q i; d = kept f.d d i }
@@ -95,7 +93,7 @@ drawn_net a n gates flops net h d within =
       clock = d.clock;
       consistent = net_fits n bit d.consistent stands apart;
       within = all_in (list_any (bit_eq bit) n.names) bit (contains_net a net within) d.within;
-      distinct = all_apart (list_any (bit_eq bit) n.names) refl bit d.distinct;
+      alike = all_apart (list_any (bit_eq bit) n.names) refl bit d.alike;
       gates_are = gates_kept n (with_net n bit) d.consistent kept ∙ d.gates_are;
       flops_are = flops_kept n (with_net n bit) d.consistent kept ∙ d.flops_are;
     }
@@ -104,13 +102,13 @@ drawn_net a n gates flops net h d within =
     all_in true bit c k = k
     all_in false bit c k = all_join (Contains a.names) n.names (bit ∷ []) k (c, tt)
 
-    all_apart : (b : Bool) → list_any (bit_eq (name_of_net a net)) n.names ≡ b → (bit : BitName) → Distinct n.names → Distinct (if b then n.names else n.names ++ name_of_net a net ∷ [])
+    all_apart : (b : Bool) → list_any (bit_eq (name_of_net a net)) n.names ≡ b → (bit : BitName) → AllPairs (λ x y. x ≢ y) n.names → AllPairs (λ x y. x ≢ y) (if b then n.names else n.names ++ name_of_net a net ∷ [])
     all_apart true e bit k = k
-    all_apart false e bit k = distinct_push n.names (name_of_net a net) k e
+    all_apart false e bit k = alike_push n.names (name_of_net a net) k e
 
 -- and they are few enough
 pub drawn_few : (a n : Named) (gates : List (Gate ℕ)) (flops : List (Flop ℕ)) → IsBuildable a → IsDrawn a n gates flops → length n.names ≤ net_limit
-drawn_few a n gates flops h d = omega (arith, distinct_few n.names a.names d.distinct d.within, h.nets)
+drawn_few a n gates flops h d = omega (arith, alike_few n.names a.names d.alike d.within, h.nets)
 
 -- a gate of the netlist, drawn
 pub drawn_gate : (a n : Named) (gates : List (Gate ℕ)) (flops : List (Flop ℕ)) (g : Gate ℕ) (out : ℕ) (ins : List ℕ) → IsDrawn a n gates flops → IsGateOf a g → out < length n.names → All (λ net. net < length n.names) ins
@@ -125,7 +123,7 @@ drawn_gate a n gates flops g out ins d h below_out below_ins same_out same_ins =
       clock = d.clock;
       consistent = gate_fits n g.op out ins d.consistent below_out below_ins (subst (IsArity g.op) (sym long) h.arity);
       within = d.within;
-      distinct = d.distinct;
+      alike = d.alike;
       gates_are = map_join (renamed_gate (name_of_net n)) n.netlist.gates (new ∷ []) ∙ (λ i. d.gates_are i ++ one i ∷ []) ∙ sym (map_join (renamed_gate (name_of_net a)) gates (g ∷ []));
       flops_are = d.flops_are;
     }
@@ -142,7 +140,7 @@ drawn_flop a n gates flops f q d w below_q below_d same_q same_d =
       clock = w.clock;
       consistent = flop_fits n q d w.consistent below_q below_d;
       within = w.within;
-      distinct = w.distinct;
+      alike = w.alike;
       gates_are = w.gates_are;
       flops_are = map_join (renamed_flop (name_of_net n)) n.netlist.flops (new ∷ []) ∙ (λ i. w.flops_are i ++ one i ∷ []) ∙ sym (map_join (renamed_flop (name_of_net a)) flops (f ∷ []));
     }
@@ -164,29 +162,12 @@ declared_drawn a n h d =
       clock = d.clock ∙ ap (λ ws. clock_among a.clock (length ws)) vs ∙ among_all a.clock a.variables h.consistent.clock;
       consistent = d.consistent;
       within = subst (AllByRecursion (Contains a.names)) (sym d.names) (front_within a n.variables [] h d.variables);
-      distinct = subst Distinct (sym d.names) (role_distinct is_port a.clock 0 n.variables);
+      alike = subst (AllPairs (λ x y. x ≢ y)) (sym d.names) (role_alike is_port a.clock 0 n.variables);
       gates_are = ap (map (renamed_gate (name_of_net n))) d.gates;
       flops_are = ap (map (renamed_flop (name_of_net n))) d.flops;
     }
 
 -- every net is driven once
-pairs_tail : (b : BitName) (bs : List BitName) → AllPairs (λ x y. x ≢ y) (b ∷ bs) → AllPairs (λ x y. x ≢ y) bs
-pairs_tail b bs h = λ i j d less within. h (suc i) (suc j) d (omega arith) (omega arith)
-
-head_apart : (b : BitName) (bs : List BitName) → AllPairs (λ x y. x ≢ y) (b ∷ bs) → AllByRecursion (λ c. bit_eq b c ≡ false) bs
-head_apart b bs h = recursion_from_All (λ c. bit_eq b c ≡ false) bs (λ k d within. test b (get_or bs k d) (h 0 (suc k) d (omega arith) (omega arith)))
-  where
-    test : (x y : BitName) → x ≢ y → bit_eq x y ≡ false
-    test x y apart = by (bit_eq x y) refl
-      where
-        by : (t : Bool) → bit_eq x y ≡ t → t ≡ false
-        by true e = absurd (apart (same_bits x y e))
-        by false e = refl
-
-pairs_distinct : (bs : List BitName) → AllPairs (λ x y. x ≢ y) bs → Distinct bs
-pairs_distinct [] h = tt
-pairs_distinct (b ∷ bs) h = (any_none b bs (head_apart b bs h), pairs_distinct bs (pairs_tail b bs h))
-
 names_driven : (a n : Named) → IsNamed a → IsDrawn a n a.netlist.gates a.netlist.flops → map (name_of_net n) (driven n.netlist) ≡ map (name_of_net a) (driven a.netlist)
 names_driven a n h d =
     let f : ℕ → BitName = name_of_net n in
@@ -215,8 +196,8 @@ driven_once a n h d m within =
     let there : Contains a.names (name_of_net n m) = All-from_recursion (Contains a.names) n.names d.within m none within in
     let k : ℕ = there.0 in
     let bit : name_of_net a k ≡ name_of_net n m = default_same a.names k none (name_of_net n m) there.1 ∙ there.2 in
-    let of_n = times_stands n.names m (driven n.netlist) d.distinct within (recursion_from_All (IsNet n) (driven n.netlist) d.consistent.drives_nets) in
-    let of_a = times_stands a.names k (driven a.netlist) (pairs_distinct a.names h.alike) there.1 (recursion_from_All (IsNet a) (driven a.netlist) h.consistent.drives_nets) in
+    let of_n = times_stands n.names m (driven n.netlist) d.alike within (recursion_from_All (IsNet n) (driven n.netlist) d.consistent.drives_nets) in
+    let of_a = times_stands a.names k (driven a.netlist) h.alike there.1 (recursion_from_All (IsNet a) (driven a.netlist) h.consistent.drives_nets) in
     let net : k < length (driven a.netlist) = subst (λ l. k < l) h.names there.1 in
     of_n ∙ (λ i. stands (sym bit i) (names_driven a n h d i)) ∙ sym of_a ∙ h.netlist.one_driver k net
 

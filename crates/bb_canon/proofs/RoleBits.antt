@@ -1,6 +1,6 @@
 -- The bits of ports, variable after variable.
-use Rattle.std.proofs.Common.{◌≡◌, ℕ, ◌+◌, ◌-◌, ◌≤◌, ◌<◌, zero, suc, List, [], ◌∷◌, ◌++◌, length, map, Option, Some, None, Bool, true, false, nat_eq, nat_lt, Contains, refl, sym, ap, ◌∙◌, arith, subst, if◌then◌else◌, append_assoc}
-use Rattle.std.specs.List.{AllByRecursion, list_any, range_with_len}
+use Rattle.std.proofs.Common.{◌≡◌, ◌≢◌, ℕ, ◌+◌, ◌-◌, ◌≤◌, ◌<◌, zero, suc, List, [], ◌∷◌, ◌++◌, length, map, Option, Some, None, Bool, true, false, nat_eq, nat_lt, AllPairs, Contains, refl, sym, ap, ◌∙◌, arith, subst, if◌then◌else◌, append_assoc}
+use Rattle.std.specs.List.{AllByRecursion, IsDistinct, range_with_len}
 use Rattle.std.proofs.lemmas.List.Elements.{Contains-get_or, recursion_from_All}
 use Rattle.std.proofs.lemmas.List.{append-nil}
 use Rattle.std.proofs.lemmas.Bool.Decides.{nat_tests}
@@ -13,8 +13,8 @@ use Rattle.bb_base.specs.Variables.{Entry, is_port, is_input, is_output, range_w
 use Rattle.bb_net.specs.Named.{Named, IsNamed, name_of_net}
 use Rattle.bb_net.specs.Building.{clock_with, port_bits}
 use Rattle.bb_base.proofs.Lists.{all_front, all_back, all_join, all_map_back}
-use Rattle.bb_canon.specs.Toward.{Distinct, clock_among}
-use Rattle.bb_canon.proofs.Distincts.{any_none, distinct_join}
+use Rattle.bb_canon.specs.Toward.{clock_among}
+use Rattle.bb_canon.proofs.Distincts.{apart_bits, distinct_join}
 use Rattle.bb_spell.proofs.Rising.{Rising, range_rises}
 
 -- the bits of one variable, where its role passes
@@ -54,9 +54,10 @@ place_apart k x m h = grind (arith, nat_tests)
 variable_apart : (a b : BitName) → a.variable < b.variable → bit_eq a b ≡ false
 variable_apart a b h = grind (arith, nat_tests)
 
-rising_distinct : (k : ℕ) (xs : List ℕ) → Rising xs → Distinct (map (bit_at k) xs)
+rising_distinct : (k : ℕ) (xs : List ℕ) → Rising xs → IsDistinct bit_eq (map (bit_at k) xs)
+unfolding IsDistinct
 rising_distinct k [] h = tt
-rising_distinct k (x ∷ xs) h = (any_none (bit_at k x) (map (bit_at k) xs) (all_map_back (λ c. bit_eq (bit_at k x) c ≡ false) (λ m. x < m) (bit_at k) (λ m l. place_apart k x m l) xs h.0), rising_distinct k xs h.1)
+rising_distinct k (x ∷ xs) h = (all_map_back (λ c. bit_eq (bit_at k x) c ≡ false) (λ m. x < m) (bit_at k) (λ m l. place_apart k x m l) xs h.0, rising_distinct k xs h.1)
 
 all_maps : {X Y : Type 0} (P : Y → Type 0) (f : X → Y) → ((x : X) → P (f x)) → (xs : List X) → AllByRecursion P (map f xs)
 all_maps P f g [] = tt
@@ -66,7 +67,8 @@ chunk_all : (P : BitName → Type 0) (b : Bool) (clock : Option BitName) (k : �
 chunk_all P true clock k v h = all_maps P (bit_at k) h (places_but (clock_place clock k) (range_width v.range))
 chunk_all P false clock k v h = tt
 
-chunk_distinct : (b : Bool) (clock : Option BitName) (k : ℕ) (v : Variable) → Distinct (if b then data_bits clock k v else [])
+chunk_distinct : (b : Bool) (clock : Option BitName) (k : ℕ) (v : Variable) → IsDistinct bit_eq (if b then data_bits clock k v else [])
+unfolding IsDistinct
 chunk_distinct true clock k v = rising_distinct k (places_but (clock_place clock k) (range_width v.range)) (places_rise (clock_place clock k) (range_width v.range))
 chunk_distinct false clock k v = tt
 
@@ -84,13 +86,17 @@ later_apart : (k : ℕ) (b : BitName) (bs : List BitName) → b.variable ≡ k �
 later_apart k b [] e h = tt
 later_apart k b (c ∷ cs) e h = (variable_apart b c (omega (arith, e, h.0)), later_apart k b cs e h.1)
 
--- no two bits of ports are one
-pub role_distinct : (p : Role → Bool) (clock : Option BitName) (k : ℕ) (vs : List Entry) → Distinct (role_bits p clock k vs)
+role_distinct : (p : Role → Bool) (clock : Option BitName) (k : ℕ) (vs : List Entry) → IsDistinct bit_eq (role_bits p clock k vs)
+unfolding IsDistinct
 role_distinct p clock k [] = tt
 role_distinct p clock k (v ∷ vs) =
     let rest : List BitName = role_bits p clock (k + 1) vs in
     distinct_join (chunk p clock k v) rest (chunk_distinct (p v.1.role) clock k v.1) (role_distinct p clock (k + 1) vs)
-    (chunk_all (λ b. list_any (bit_eq b) rest ≡ false) (p v.1.role) clock k v.1 (λ m. any_none (bit_at k m) rest (later_apart k (bit_at k m) rest refl (role_from p clock (k + 1) vs))))
+    (chunk_all (λ b. AllByRecursion (λ c. bit_eq b c ≡ false) rest) (p v.1.role) clock k v.1 (λ m. later_apart k (bit_at k m) rest refl (role_from p clock (k + 1) vs)))
+
+-- no two bits of ports are alike
+pub role_alike : (p : Role → Bool) (clock : Option BitName) (k : ℕ) (vs : List Entry) → AllPairs (λ a b. a ≢ b) (role_bits p clock k vs)
+role_alike p clock k vs = apart_bits (role_bits p clock k vs) (role_distinct p clock k vs)
 
 -- the bits of ports are those of inputs and of outputs
 role_ports : (P : BitName → Type 0) (r : Role) (bs : List BitName) → AllByRecursion P (if is_input r then bs else []) → AllByRecursion P (if is_output r then bs else []) → AllByRecursion P (if is_port r then bs else [])

@@ -1,4 +1,4 @@
--- A reader on the way through lines of one kind, of which each says an item.
+-- A reader on the way through lines of one kind, of which each says an item. No public contract cites this.
 use Rattle.std.specs.Prelude.{◌≡◌, ℕ, Bool, true, false, None, List, [], ◌∷◌, ◌++◌, Option, Some}
 use Rattle.std.specs.List.{list_all, flat_map}
 use Rattle.std.specs.Option.{option_map}

@@ -1,4 +1,4 @@
--- What texts name in a netlist that is being read.
+-- What texts name in a netlist that is being read. No public contract cites this.
 use Rattle.std.specs.Prelude.{ℕ, ◌-◌, ◌&&◌, Bool, false, not, nat_le, nat_lt, length, Option, Some, None, slice_get, if◌then◌else◌}
 use Rattle.std.specs.List.{list_all}
 use Rattle.bb_netlist.specs.declared.fault.NetFault.{NetFault}

@@ -1,4 +1,4 @@
--- What a whole line says, or nothing where it is no line of its kind.
+-- What a whole line says, or nothing where it is no line of its kind. No public contract cites this.
 use Rattle.std.specs.Prelude.{◌≡◌, Bool, true, false, not, is_some, ℕ, List, [], ◌∷◌, ◌++◌, codes, if◌then◌else◌}
 use Rattle.std.specs.List.{list_all, flat_map, AllByRecursion}
 use Rattle.std.specs.Str.{bytes_eq}

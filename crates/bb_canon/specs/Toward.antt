@@ -1,15 +1,10 @@
--- A draft on the way to a netlist whose text is read.
-use Rattle.std.specs.Prelude.{◌≡◌, ℕ, ◌<◌, nat_lt, false, List, [], ◌∷◌, ◌++◌, length, map, Contains, Option, None, Some, if◌then◌else◌}
-use Rattle.std.specs.List.{list_any, AllByRecursion}
+-- A draft on the way to a netlist whose text is read. No public contract cites this.
+use Rattle.std.specs.Prelude.{◌≡◌, ◌≢◌, ℕ, ◌<◌, nat_lt, List, [], ◌++◌, length, map, AllPairs, Contains, Option, None, Some, if◌then◌else◌}
+use Rattle.std.specs.List.{AllByRecursion}
 use Rattle.bb_base.specs.declared.variable.BitName.{BitName}
 use Rattle.bb_netlist.specs.Net.{Gate, Flop, renamed_gate, renamed_flop, HasArity}
-use Rattle.bb_base.specs.Variables.{Entry, is_port, role_bits, bit_eq}
+use Rattle.bb_base.specs.Variables.{Entry, is_port, role_bits}
 use Rattle.bb_net.specs.Named.{Named, IsConsistent, name_of_net}
-
--- no two of the bits are one
-abbrev pub Distinct : List BitName → Type 0
-Distinct [] = Unit {0}
-Distinct (b ∷ bs) = (list_any (bit_eq b) bs ≡ false) × Distinct bs
 
 -- n has the variables of a, nets of a with no two alike, and these gates and flip-flops of a, under the same names
 pub record IsDrawn (a n : Named) (gates : List (Gate ℕ)) (flops : List (Flop ℕ)) : Type 0 where
@@ -18,7 +13,7 @@ pub record IsDrawn (a n : Named) (gates : List (Gate ℕ)) (flops : List (Flop �
   pub clock : n.clock ≡ a.clock
   pub consistent : IsConsistent n
   pub within : AllByRecursion (Contains a.names) n.names
-  pub distinct : Distinct n.names
+  pub alike : AllPairs (λ a b. a ≢ b) n.names
   pub gates_are : map (renamed_gate (name_of_net n)) n.netlist.gates ≡ map (renamed_gate (name_of_net a)) gates
   pub flops_are : map (renamed_flop (name_of_net n)) n.netlist.flops ≡ map (renamed_flop (name_of_net a)) flops
 

@@ -221,10 +221,6 @@ pub graphic_no_odd : (b : ℕ) → is_name_byte b ≡ true → is_odd b ≡ fals
 unfolding is_odd
 graphic_no_odd b h = grind (arith, nat_tests)
 
-pub or_true : (a : Bool) → (a || true) ≡ true
-or_true true = refl
-or_true false = refl
-
 pub or_false : (a b : Bool) → (a || b) ≡ false → (a ≡ false) × (b ≡ false)
 or_false true b h = absurd cc
 or_false false b h = (refl, h)

@@ -17,7 +17,8 @@ use Rattle.bb_lex.specs.Bytes.{between, class_of, is_number, is_constant, is_odd
 use Rattle.bb_lex.specs.Fences.{opener, closer, place_after, shown, outside, has_close, is_closed}
 use Rattle.bb_lex.specs.Machine.{run, start, Closes}
 use Rattle.bb_lex.specs.Text.{number, is_in_line, starts_with, timescale, Plain, plain_text, plain_value, IsPlain, Head, head_text, head_size, IsHead, Literal, literal_text, literal_value, IsLiteral, Lexeme, Blank, LineComment, Timescale, Fenced, Word, Escaped, Digits, Constant, Paren, Tilde, Caret, TildeCaret, CaretTilde, Single, spelling, IsLexeme, text_of, Each, tokens_of, feeds_of, Flaw, Stray, StraySlash, StrayTick, StrayBackslash, CutName, LongWord, LongEscaped, LargeNumber, BadSize, NoBase, NoDigit, OddDigit, LargeConstant, Open, flaw_text, NoSign, IsFlaw, fault_of, IsEnd, Denotes}
-use Rattle.bb_lex.proofs.ByteLemmas.{or_true, and_true, both_false}
+use Rattle.bb_base.proofs.BooleanLemmas.{or_true}
+use Rattle.bb_lex.proofs.ByteLemmas.{and_true, both_false}
 use Rattle.bb_lex.proofs.Spelled.{denoted_gives}
 
 -- ---- bytes

@@ -19,7 +19,8 @@ use Rattle.bb_lex.specs.Bytes.{between, class_of, is_number, is_odd, is_sign, ba
 use Rattle.bb_lex.specs.Fences.{closer, place_after, shown, outside, has_close}
 use Rattle.bb_lex.specs.Machine.{Between, InName, InNumber, AtQuote, AtBase, InConstant, AtTick, InLine, InFence, AtBackslash, InEscaped, Failed, Machine, at, number_limit, constant_limit, grown, tick_byte, goes_on, Goes, quoted, based, Ending, Ends, Spells, Breaks, is_short, ending, begun_by, act, close_as, close, begin, more, step, run, answer_by, Closes}
 use Rattle.bb_lex.specs.Text.{number, is_in_line, starts_with, timescale, Plain, plain_text, plain_value, IsPlain, Head, head_text, head_size, IsSign, IsHead, Literal, literal_text, literal_value, IsLiteral}
-use Rattle.bb_lex.proofs.ByteLemmas.{feed_star, digit_capped, figure_capped, number_no_quote, radix_least, figure_goes, sign_no_base, graphic_no_odd, or_true, or_false}
+use Rattle.bb_lex.proofs.ByteLemmas.{feed_star, digit_capped, figure_capped, number_no_quote, radix_least, figure_goes, sign_no_base, graphic_no_odd, or_false}
+use Rattle.bb_base.proofs.BooleanLemmas.{or_true}
 use Rattle.bb_lex.proofs.CappedLemmas.{capped_step}
 use Rattle.bb_lex.proofs.Feeding.{on, off}
 

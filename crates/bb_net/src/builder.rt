@@ -4,7 +4,7 @@ ghost use Rattle.std.specs.List.{range_with_len};
 ghost use Rattle.bb_netlist.specs.Net.{driven, times};
 ghost use Rattle.bb_base.specs.Operators.{IsArity};
 ghost use Rattle.bb_base.specs.Variables.{IsBit, IsRange, range_width, is_input, is_output, is_port, bit_at, places_but};
-ghost use Rattle.bb_net.specs.Named.{lookup_of, IsNamed};
+ghost use Rattle.bb_net.specs.Named.{lookup_of, IsNamed, IsConsistent};
 ghost use Rattle.bb_netlist.specs.Faults.{IsGateFault, IsVariableFault, IsNetCallFault, IsFinishFault};
 ghost use Rattle.bb_net.specs.Building.{started, net_limit, port_bits, new_nets, with_variable, MayClock, with_net, with_gate, with_flop, clock_with, IsTooMany, IsEarlier};
 ghost use Rattle.bb_base.specs.Firsts.{IsFirst};
@@ -217,6 +217,7 @@ impl Builder {
         ensures two { (net : ℕ) → IsErrOf result (NetFault.TwoDrivers net) → IsFirst (λ m. 2 ≤ times m (driven self.netlist)) (length self.names) net }
         ensures none { (net : ℕ) → IsErrOf result (NetFault.Undriven net) → IsFirst (λ m. times m (driven self.netlist) ≡ 0) (length self.names) net }
         ensures order { (net : ℕ) → IsErrOf result (NetFault.Undriven net) → (m : ℕ) → m < length self.names → times m (driven self.netlist) ≤ 1 }
+        ensures fits { IsConsistent self }
         ensures only { IfErr result IsFinishFault }
     {
         let Builder {

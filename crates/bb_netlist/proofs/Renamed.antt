@@ -1,9 +1,27 @@
--- A netlist under other names has the same runs, for any meaning of gates.
-use Rattle.std.proofs.Common.{◌≡◌, List, [], ◌∷◌, Bool, map, sym, ap, ◌∙◌, subst}
-use Rattle.std.specs.List.{AllByRecursion}
-use Rattle.bb_netlist.specs.Net.{Gate, Flop, Netlist, renamed, renamed_gate, renamed_flop}
+-- A netlist under other names: what it drives and reads, and that it has the same runs, for any meaning of gates.
+use Rattle.std.proofs.Common.{◌≡◌, List, [], ◌∷◌, ◌++◌, Bool, map, refl, sym, ap, ◌∙◌, subst}
+use Rattle.std.specs.List.{AllByRecursion, flat_map}
+use Rattle.bb_netlist.specs.Net.{Gate, Flop, Netlist, renamed, renamed_gate, renamed_flop, driven, reads}
 use Rattle.bb_netlist.specs.Run.{IsRun, IsRunBy, SettlesBy, MeetsBy, by_op, next_states}
-use Rattle.bb_base.proofs.Lists.{map_twice, all_map, all_map_back, both_map, map_alike}
+use Rattle.bb_base.proofs.Lists.{map_join, map_twice, all_map, all_map_back, both_map, map_alike}
+
+-- the nets that it drives and reads
+pub driven_renamed : {M N : Type 0} (f : M → N) (n : Netlist M) → driven (renamed f n) ≡ map f (driven n)
+driven_renamed {M} {N} f n =
+    (λ i. map f n.inputs ++ ((map_twice (λ (g : Gate N). g.out) (renamed_gate f) n.gates ∙ sym (map_twice f (λ (g : Gate M). g.out) n.gates)) i
+    ++ (map_twice (λ (p : Flop N). p.q) (renamed_flop f) n.flops ∙ sym (map_twice f (λ (p : Flop M). p.q) n.flops)) i))
+    ∙ ap (λ ys. map f n.inputs ++ ys) (sym (map_join f (map (λ (g : Gate M). g.out) n.gates) (map (λ (p : Flop M). p.q) n.flops)))
+    ∙ sym (map_join f n.inputs (map (λ (g : Gate M). g.out) n.gates ++ map (λ (p : Flop M). p.q) n.flops))
+
+pub ins_renamed : {M N : Type 0} (f : M → N) (gates : List (Gate M)) → flat_map (λ (g : Gate N). g.ins) (map (renamed_gate f) gates) ≡ map f (flat_map (λ (g : Gate M). g.ins) gates)
+ins_renamed f [] = refl
+ins_renamed {M} {N} f (g ∷ gates) = ap (λ ys. map f g.ins ++ ys) (ins_renamed f gates) ∙ sym (map_join f g.ins (flat_map (λ (k : Gate M). k.ins) gates))
+
+pub reads_renamed : {M N : Type 0} (f : M → N) (n : Netlist M) → reads (renamed f n) ≡ map f (reads n)
+reads_renamed {M} {N} f n =
+    (λ i. map f n.outputs ++ (ins_renamed f n.gates i ++ (map_twice (λ (p : Flop N). p.d) (renamed_flop f) n.flops ∙ sym (map_twice f (λ (p : Flop M). p.d) n.flops)) i))
+    ∙ ap (λ ys. map f n.outputs ++ ys) (sym (map_join f (flat_map (λ (g : Gate M). g.ins) n.gates) (map (λ (p : Flop M). p.d) n.flops)))
+    ∙ sym (map_join f n.outputs (flat_map (λ (g : Gate M). g.ins) n.gates ++ map (λ (p : Flop M). p.d) n.flops))
 
 -- g finds a net by its new name
 abbrev pub Back : {M N : Type 0} → (M → N) → (N → M) → M → Type 0

@@ -1,12 +1,12 @@
 -- Outside a test a named netlist that is the thin one by its names runs as the original does, and the other way round.
 use Rattle.std.proofs.Common.{◌≡◌, ℕ, ◌+◌, ◌<◌, zero, suc, refl, Some, slice_get, List, [], ◌∷◌, ◌++◌, length, map, take, Bool, false, sym, ap, subst, ◌∙◌, arith, length-append}
 use Rattle.std.specs.List.{AllByRecursion}
-use Rattle.bb_netlist.specs.Net.{Flop, Netlist, driven, renamed, renamed_gate, renamed_flop}
+use Rattle.bb_netlist.specs.Net.{Flop, Netlist, driven, renamed, renamed_flop}
 use Rattle.bb_netlist.specs.Run.{IsRun}
 use Rattle.bb_base.specs.Variables.{Bit}
 use Rattle.bb_net.specs.Named.{Named, IsNamed, Design, design_of, net_text}
 use Rattle.bb_base.proofs.Lists.{all_map_back, map_twice, map_join, length_map}
-use Rattle.bb_netlist.proofs.Renamed.{FindsAll, run_back, run_forth, run_named}
+use Rattle.bb_netlist.proofs.Renamed.{FindsAll, driven_renamed, run_back, run_forth, run_named}
 use Rattle.bb_thin.specs.declared.symbol.Symbol.{Symbol}
 use Rattle.bb_thin.specs.declared.symbol.Symbol.TheVariants.{Kept, Test, Init, So, Done}
 use Rattle.bb_thin.specs.Thin.{thin, kept_flop, cell_flops_from}
@@ -17,15 +17,6 @@ use Rattle.bb_thin.proofs.Backward.{backward, cell_flops_long}
 use Rattle.bb_base.proofs.Distinct.{Distinct}
 use Rattle.bb_thin.proofs.Texts.{texts_distinct}
 use Rattle.bb_thin.proofs.Found.{find_wire, found_all, HoldsOfAll, all_read}
-
--- what is driven under other names
-driven_renamed : {M N : Type 0} (f : M → N) (n : Netlist M) → driven (renamed f n) ≡ map f (driven n)
-driven_renamed f n =
-    let outs = map (λ g. g.out) n.gates in
-    let states = map (λ p. p.q) n.flops in
-    let new_outs : map (λ g. g.out) (map (renamed_gate f) n.gates) ≡ map f outs = map_twice (λ g. g.out) (renamed_gate f) n.gates ∙ sym (map_twice f (λ g. g.out) n.gates) in
-    let new_states : map (λ p. p.q) (map (renamed_flop f) n.flops) ≡ map f states = map_twice (λ p. p.q) (renamed_flop f) n.flops ∙ sym (map_twice f (λ p. p.q) n.flops) in
-    (λ i. map f n.inputs ++ (new_outs i ++ new_states i)) ∙ sym (map_join f n.inputs (outs ++ states) ∙ ap (λ xs. map f n.inputs ++ xs) (map_join f outs states))
 
 -- values that are those of the original's nets agree at the nets' names
 agree : (name : ℕ → Bit) (g : Bit → Symbol) (nets : List ℕ) → AllByRecursion (λ net. g (name net) ≡ Kept net) nets → (vs : List (Bit → Bool)) (ws : List (Symbol → Bool)) → map kept ws ≡ map (λ v net. v (name net)) vs

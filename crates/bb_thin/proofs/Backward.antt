@@ -1,9 +1,10 @@
 -- From a run of the original to one of the thin netlist outside a test, over symbols.
-use Rattle.std.proofs.Common.{◌≡◌, ℕ, ◌+◌, ◌<◌, zero, suc, List, [], ◌∷◌, ◌++◌, length, map, get_or, Bool, true, false, ◌&&◌, ◌||◌, refl, sym, ap, subst, ◌∙◌, arith}
+use Rattle.std.proofs.Common.{◌≡◌, ℕ, ◌+◌, ◌<◌, zero, suc, List, [], ◌∷◌, ◌++◌, length, map, get_or, Bool, true, false, refl, sym, ap, subst, ◌∙◌, arith}
 use Rattle.std.specs.List.{AllByRecursion}
 use Rattle.bb_netlist.specs.Net.{Flop, Netlist}
 use Rattle.bb_base.specs.Operators.{op_gives}
 use Rattle.bb_netlist.specs.Run.{Settles, IsRun, next_states}
+use Rattle.bb_base.proofs.BooleanLemmas.{and_true, or_false}
 use Rattle.bb_base.proofs.Lists.{all_join, all_map_back, same_map, map_twice, map_join, length_map}
 use Rattle.bb_thin.specs.declared.symbol.Symbol.{Symbol}
 use Rattle.bb_thin.specs.declared.symbol.Symbol.TheVariants.{Kept, Test, Init, So, Done, NotTest, Next, InTest, InNormal, Read, Cell}
@@ -30,14 +31,6 @@ fill a v init cells (InNormal i) = v (get_or a.inputs i 0)
 fill a v init cells (Read i) = v (get_or a.inputs i 0)
 fill a v init cells (Cell i) = get_or cells i false
 
-and_true : (b : Bool) → b ≡ (b && true)
-and_true true = refl
-and_true false = refl
-
-or_false : (b : Bool) → b ≡ (b || false)
-or_false true = refl
-or_false false = refl
-
 -- the gates of the cells
 cells_meet : (a : Netlist ℕ) (v : ℕ → Bool) (init : Bool) (cells : List Bool) (i : ℕ) (inputs : List ℕ) → ((k : ℕ) → k < length inputs → get_or inputs k 0 ≡ get_or a.inputs (i + k) 0)
     → AllByRecursion (Meets (fill a v init cells)) (cells_from i inputs)
@@ -47,7 +40,7 @@ cells_meet a v init cells i (input ∷ inputs) h =
     let here : input ≡ get_or a.inputs i 0 = h 0 (omega arith) ∙ ap (λ k. get_or a.inputs k 0) at in
     let later : (k : ℕ) → k < length inputs → get_or inputs k 0 ≡ get_or a.inputs (i + 1 + k) 0 =
     λ k less. let next : i + suc k ≡ i + 1 + k = omega arith in h (suc k) (omega arith) ∙ ap (λ j. get_or a.inputs j 0) next in
-    (refl, (refl, (ap v (sym here) ∙ and_true (v input), (or_false (v (get_or a.inputs i 0)), cells_meet a v init cells (i + 1) inputs later))))
+    (refl, (refl, (ap v (sym here) ∙ sym (and_true (v input)), (sym (or_false (v (get_or a.inputs i 0))), cells_meet a v init cells (i + 1) inputs later))))
 
 shift_meets : (a : Netlist ℕ) (v : ℕ → Bool) (init : Bool) (cells : List Bool) → Meets (fill a v init cells) (shift_out (length a.inputs))
 shift_meets a v init cells = by (length a.inputs) refl

@@ -9,5 +9,4 @@ pub mod RowLemmas
 pub mod LayLemmas
 pub mod FillLemmas
 pub mod WovenLemmas
-pub mod BitLemmas
 pub mod FewLemmas

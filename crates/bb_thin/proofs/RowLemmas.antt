@@ -1,15 +1,15 @@
 -- Rows of the table, as gates and flip-flops behind others.
-use Rattle.std.proofs.Common.{◌≡◌, ℕ, ◌+◌, ◌<◌, List, [], ◌∷◌, ◌++◌, length, map, drop, All, slice_get, Some, sym, ap, subst, ◌∙◌, append_assoc}
+use Rattle.std.proofs.Common.{◌≡◌, ℕ, ◌+◌, ◌<◌, List, [], ◌∷◌, ◌++◌, length, map, drop, All, sym, ap, subst, ◌∙◌, append_assoc}
 use Rattle.std.proofs.lemmas.List.Elements.{All-map, All-weaker, All-get_or}
 use Rattle.bb_base.specs.declared.variable.BitName.{BitName}
-use Rattle.bb_netlist.specs.Net.{Gate, Flop, renamed_gate, renamed_flop}
+use Rattle.bb_netlist.specs.Net.{Gate, Flop, renamed_flop}
 use Rattle.bb_net.specs.Named.{Named}
 use Rattle.bb_net.specs.Building.{with_flop, with_gates, with_flops}
-use Rattle.bb_base.proofs.Lists.{map_join, get_some}
+use Rattle.bb_base.proofs.Lists.{get_some}
 use Rattle.bb_thin.specs.declared.symbol.Symbol.{Symbol}
 use Rattle.bb_thin.specs.declared.symbol.Symbol.TheVariants.{Kept, Next, Cell}
 use Rattle.bb_thin.specs.declared.layout.Layout.{Layout}
-use Rattle.bb_thin.specs.Thin.{cell_gates, cells_from, cell_flops_from}
+use Rattle.bb_thin.specs.Thin.{cell_flops_from}
 use Rattle.bb_thin.specs.Layout.{wire_number, Has, AllLaid}
 use Rattle.bb_thin.specs.Weaving.{read_at}
 use Rattle.bb_thin.proofs.WeaveLemmas.{drop_pop}
@@ -39,20 +39,6 @@ cell_flop_step f old new rest inputs i less e h =
     let x = get_some inputs i less in
     let more : List (Flop ℕ) = map (renamed_flop f) (cell_flops_from (i + 1) (drop (i + 1) inputs)) in
     ap (λ ks. ks ++ more) e ∙ append_assoc old (record { q = f (Cell i); d = f (Next i) } ∷ []) more ∙ ap (λ ks. old ++ map (renamed_flop f) (cell_flops_from i ks)) (sym (drop_pop inputs i x.0 x.1)) ∙ h
-
--- gates more, and the next cell's
-pub rest_gates : (fn b new : Named) (gates : List (Gate ℕ)) → b ≡ record fn { netlist = record fn.netlist { gates = b.netlist.gates } } → new ≡ with_gates b gates → new ≡ record fn { netlist = record fn.netlist { gates = new.netlist.gates } }
-rest_gates fn b new gates rest e =
-    let all : b.netlist.gates ++ gates ≡ new.netlist.gates = sym (ap (λ (k : Named). k.netlist.gates) e) in
-    e ∙ (λ i. record (rest i) { netlist = record (rest i).netlist { gates = b.netlist.gates ++ gates } }) ∙ (λ i. record fn { netlist = record fn.netlist { gates = all i } })
-
-pub cell_gates_step : (f : Symbol → ℕ) (old new rest : List (Gate ℕ)) (inputs : List ℕ) (i input : ℕ) → slice_get inputs i ≡ Some input → new ≡ old ++ map (renamed_gate f) (cell_gates i input)
-    → old ++ map (renamed_gate f) (cells_from i (drop i inputs)) ≡ rest → new ++ map (renamed_gate f) (cells_from (i + 1) (drop (i + 1) inputs)) ≡ rest
-cell_gates_step f old new rest inputs i input at e h =
-    let here : List (Gate ℕ) = map (renamed_gate f) (cell_gates i input) in
-    let more : List (Gate ℕ) = map (renamed_gate f) (cells_from (i + 1) (drop (i + 1) inputs)) in
-    ap (λ ks. ks ++ more) e ∙ append_assoc old here more ∙ ap (λ ks. old ++ ks) (sym (map_join (renamed_gate f) (cell_gates i input) (cells_from (i + 1) (drop (i + 1) inputs))))
-    ∙ ap (λ ks. old ++ map (renamed_gate f) (cells_from i ks)) (sym (drop_pop inputs i input at)) ∙ h
 
 -- gates after gates
 pub gates_twice : (b c d : Named) (xs ys : List (Gate ℕ)) → c ≡ with_gates b xs → d ≡ with_gates c ys → d ≡ with_gates b (xs ++ ys)

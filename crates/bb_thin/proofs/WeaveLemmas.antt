@@ -24,9 +24,6 @@ use Rattle.bb_thin.specs.Thin.{read_from}
 use Rattle.bb_thin.specs.Weaving.{wire_entry, gate_wires_from, cells_up_from, read_over}
 
 -- growth, one step after another
-pub grows_itself : (n : Named) → Grows n n
-grows_itself n = record { module_name = refl; variables = λ i x h. h; names = λ i x h. h; gates = refl; flops = refl }
-
 pub grows_on : (a b c : Named) → Grows a b → Grows b c → Grows a c
 grows_on a b c h k = record {
   module_name = k.module_name ∙ h.module_name;

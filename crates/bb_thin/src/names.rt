@@ -1,5 +1,5 @@
-ghost use Rattle.std.specs.Prelude.{◌≡◌, ◌++◌, ◌<◌, ◌≤◌, ◌^◌, IfOk, decimal, length, All};
-ghost use Rattle.bb_base.specs.Name.{IsName, IsNameByte};
+ghost use Rattle.std.specs.Prelude.{◌≡◌, ◌++◌, ◌<◌, ◌≤◌, IfOk, decimal, length, All};
+ghost use Rattle.bb_base.specs.Name.{IsNameByte};
 ghost use Rattle.bb_thin.specs.ThinText.{wire_name};
 
 use crate::symbol::Symbol;

@@ -1,7 +1,6 @@
 //! The rows of the thin netlist's table, as gates and flip-flops of a builder.
 
-ghost use Rattle.std.specs.Prelude.{◌≡◌, ◌<◌, ◌≤◌, ◌+◌, ◌*◌, ◌-◌, ◌^◌, ◌++◌, ◌∷◌, [], ℕ, length, map, All, IfOk, OnOk};
-ghost use Rattle.std.specs.List.{AllByRecursion};
+ghost use Rattle.std.specs.Prelude.{◌≡◌, ◌<◌, ◌+◌, ◌*◌, ◌-◌, ◌^◌, ◌∷◌, [], length, map, All, IfOk, OnOk};
 ghost use Rattle.bb_netlist.specs.Net.{renamed_gate, renamed_flop};
 ghost use Rattle.bb_thin.specs.Thin.{row, cell_gates, cells_from, cell_flops_from, shift_out, before};
 ghost use Rattle.bb_thin.specs.Layout.{wire_number, Has, AllLaid};

@@ -4,7 +4,7 @@
 //! wires, `bt_w` and a number; the nets are few; and each has its driver. That is argued and not proved, so a refusal would be
 //! answered as want of memory, the one answer that says nothing of the netlist.
 
-ghost use Rattle.std.specs.Prelude.{◌≡◌, ◌+◌, ◌++◌, [], length, map, take, IfOk, OnOk, Some};
+ghost use Rattle.std.specs.Prelude.{◌≡◌, ◌+◌, ◌++◌, [], length, map, take, IfOk, OnOk};
 ghost use Rattle.bb_netlist.specs.Net.{renamed_gate, renamed_flop};
 ghost use Rattle.bb_net.specs.Named.{design_of};
 ghost use Rattle.bb_net.specs.Building.{started, Grows, with_gates, with_flops};

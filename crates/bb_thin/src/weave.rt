@@ -1,14 +1,12 @@
 //! The variables and nets of the thin netlist, one after another.
 
-ghost use Rattle.std.specs.Prelude.{◌≡◌, ◌≢◌, ◌<◌, ◌≤◌, ◌+◌, ◌*◌, ◌-◌, ◌^◌, ◌++◌, ◌∷◌, [], ℕ, length, map, take, drop, All, IfOk, OnOk, IfSome, None, Some, slice_get, slice_index, true, codes};
-ghost use Rattle.std.specs.List.{AllByRecursion};
+ghost use Rattle.std.specs.Prelude.{◌≡◌, ◌≢◌, ◌<◌, ◌+◌, ◌*◌, ◌-◌, ◌^◌, ◌++◌, ◌∷◌, [], ℕ, length, map, take, drop, All, IfOk, OnOk, None, Some, slice_get, slice_index, true};
 ghost use Rattle.std.specs.Option.{ForSome};
-ghost use Rattle.bb_netlist.specs.Net.{renamed_gate, renamed_flop};
-ghost use Rattle.bb_base.specs.Variables.{clock_place, IsRange, is_port, is_input, bit_at, Entry, role_bits, ports_of};
-ghost use Rattle.bb_net.specs.Named.{Named, IsNamed, design_of, net_text};
-ghost use Rattle.bb_net.specs.Building.{with_variable, MayClock, clock_with, with_gate, with_flop, Grows, IsNet, with_gates, with_flops};
-ghost use Rattle.bb_thin.specs.Thin.{row, read_of, kept_gate, kept_flop, added_gates, cells_from, cell_flops_from};
-ghost use Rattle.bb_thin.specs.ThinText.{clock_ports, scalar, scalar_bit, wire_name, wire_text, thin_design};
+ghost use Rattle.bb_base.specs.Variables.{clock_place, IsRange, is_port, bit_at, Entry, ports_of};
+ghost use Rattle.bb_net.specs.Named.{IsNamed, net_text};
+ghost use Rattle.bb_net.specs.Building.{MayClock, clock_with, Grows, IsNet};
+ghost use Rattle.bb_thin.specs.Thin.{read_of};
+ghost use Rattle.bb_thin.specs.ThinText.{clock_ports, scalar, scalar_bit, wire_name};
 ghost use Rattle.bb_thin.specs.Weaving.{added_wires, gate_wires_from, cells_up_from, wire_entry, moved, clock_bit, read_over};
 
 use crate::names::name_of;
