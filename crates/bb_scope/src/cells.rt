@@ -1,18 +1,18 @@
 //! The table of cells.
 
-ghost use Rattle.std.specs.Prelude.{◌≡◌, ◌∷◌, [], ℕ, List, Bool, map, codes, IfOk, IfSome, Some, None, true, if◌then◌else◌};
+ghost use Rattle.std.specs.Prelude.{◌≡◌, map};
 ghost use Rattle.std.specs.Option.{option_map};
 ghost use Rattle.std.specs.Map.{lookup};
 ghost use Rattle.std.specs.Str.{bytes_eq};
-ghost use Rattle.bb_scope.specs.Names.{has_name};
 ghost use Rattle.bb_fault.specs.Firsts.{first_answer};
+ghost use Rattle.bb_scope.specs.Answers.{IsAnswer};
 ghost use Rattle.bb_scope.specs.Cells.{kind_of, unknown_item};
-ghost use Rattle.bb_scope.specs.Kinds.{kind_value, row_value, texts};
+ghost use Rattle.bb_scope.specs.Kinds.{kind_value, row_value};
 
 use bb_base::Op;
 use bb_fault::ElabFault;
 use bb_parse::Item;
-use std::alloc::{AllocError, Global};
+use std::alloc::Global;
 
 /// What a cell is made of.
 #[derive(Clone, Copy, Debug, PartialEq, Eq)]
@@ -182,8 +182,8 @@ pub fn kind_of(name: &[u8]) -> Option<Kind>
 }
 
 /// The fault of the first cell that the table lacks.
-pub fn unknown_cell(alloc: Global, items: &[Item]) -> Result<Option<ElabFault>, AllocError>
-    ensures { IfOk result (λ fault. fault ≡ first_answer unknown_item items.now) }
+pub fn unknown_cell(alloc: Global, items: &[Item]) -> Result<(), ElabFault>
+    ensures { IsAnswer (first_answer unknown_item items.now) result }
 {
     for item in items {
         if let Item::Cell {
@@ -193,12 +193,12 @@ pub fn unknown_cell(alloc: Global, items: &[Item]) -> Result<Option<ElabFault>, 
         } = item
         {
             if kind_of(cell.bytes()).is_none() {
-                return Ok(Some(ElabFault::UnknownCell {
+                return Err(ElabFault::UnknownCell {
                     name: cell.copy(alloc)?,
                     select: None,
-                }));
+                });
             }
         }
     }
-    Ok(None)
+    Ok(())
 }

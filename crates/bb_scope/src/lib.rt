@@ -6,7 +6,8 @@
 //! - `kind_of` answers the row of the table of cells.
 //!
 //! `specs/Names.antt`, `specs/Declarations.antt` and `specs/Variables.antt` say what a module's names, declarations and variables
-//! are, `specs/References.antt` which bits a reference names, and `specs/Cells.antt` what the cells are.
+//! are, `specs/References.antt` which bits a reference names, `specs/Cells.antt` what the cells are, and `specs/Answers.antt` what a
+//! call that looks for a fault may answer.
 #![tactic(auto)]
 
 mod cells;

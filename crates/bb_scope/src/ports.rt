@@ -1,10 +1,11 @@
 //! The ports of a module: each name of the header once and with a direction, and no direction of another name.
 
-ghost use Rattle.std.specs.Prelude.{◌≡◌, ◌++◌, ◌∷◌, [], ◌||◌, OnOk, IfOk, Some, None, false, not, map, fold, flat_map};
+ghost use Rattle.std.specs.Prelude.{◌≡◌, ◌++◌, ◌∷◌, [], OnOk, IfOk, None, false, map, fold, flat_map};
 ghost use Rattle.bb_fault.specs.declared.fault.ElabFault.TheVariants.{BadPort};
-ghost use Rattle.bb_scope.specs.Names.{has_name, with_new_name, header_names};
+ghost use Rattle.bb_scope.specs.Answers.{IsAnswer};
+ghost use Rattle.bb_scope.specs.Names.{header_names};
 ghost use Rattle.bb_scope.specs.Declarations.{declarations, item_decls, is_stray, bad_port};
-ghost use Rattle.bb_scope.specs.Said.{said_in, is_directed, is_odd_said, odd_fault, stray_fault, with_decl};
+ghost use Rattle.bb_scope.specs.Said.{is_directed, is_odd_said, odd_fault, stray_fault, with_decl};
 
 use crate::said::Said;
 use bb_base::{Name, is_port_role};
@@ -55,16 +56,16 @@ fn odd_name(
     said: &IndexMap<Name, Said>,
     before: &mut IndexSet<Name>,
     names: &[Name],
-) -> Result<Option<ElabFault>, AllocError>
-    ensures fault { IfOk result (λ fault. fault ≡ odd_fault said.now.entries before.old.keys names.now) }
-    ensures before { IfOk result (λ fault. fault ≡ None → before.new.keys ≡ before.old.keys ++ names.now) }
+) -> Result<(), ElabFault>
+    ensures fault { IsAnswer (odd_fault said.now.entries before.old.keys names.now) result }
+    ensures before { OnOk result (before.new.keys ≡ before.old.keys ++ names.now) }
 {
     for name in names {
         if is_odd(alloc, said, before, name)? {
-            return Ok(Some(bad_port(alloc, name)?));
+            return Err(bad_port(alloc, name)?);
         }
     }
-    Ok(None)
+    Ok(())
 }
 
 /// The same of declarations.
@@ -73,16 +74,16 @@ fn odd_decl(
     said: &IndexMap<Name, Said>,
     before: &mut IndexSet<Name>,
     decls: &[Decl],
-) -> Result<Option<ElabFault>, AllocError>
-    ensures fault { IfOk result (λ fault. fault ≡ odd_fault said.now.entries before.old.keys (map (λ d. d.name) decls.now)) }
-    ensures before { IfOk result (λ fault. fault ≡ None → before.new.keys ≡ before.old.keys ++ map (λ d. d.name) decls.now) }
+) -> Result<(), ElabFault>
+    ensures fault { IsAnswer (odd_fault said.now.entries before.old.keys (map (λ d. d.name) decls.now)) result }
+    ensures before { OnOk result (before.new.keys ≡ before.old.keys ++ map (λ d. d.name) decls.now) }
 {
     for decl in decls {
         if is_odd(alloc, said, before, &decl.name)? {
-            return Ok(Some(bad_port(alloc, &decl.name)?));
+            return Err(bad_port(alloc, &decl.name)?);
         }
     }
-    Ok(None)
+    Ok(())
 }
 
 /// The fault of the first odd name of a header, and its names.
@@ -91,9 +92,9 @@ fn odd_port(
     said: &IndexMap<Name, Said>,
     before: &mut IndexSet<Name>,
     header: &Header,
-) -> Result<Option<ElabFault>, AllocError>
-    ensures fault { IfOk result (λ fault. fault ≡ odd_fault said.now.entries before.old.keys (header_names header.now)) }
-    ensures before { IfOk result (λ fault. fault ≡ None → before.new.keys ≡ before.old.keys ++ header_names header.now) }
+) -> Result<(), ElabFault>
+    ensures fault { IsAnswer (odd_fault said.now.entries before.old.keys (header_names header.now)) result }
+    ensures before { OnOk result (before.new.keys ≡ before.old.keys ++ header_names header.now) }
 {
     match header {
         Header::Plain(names) => odd_name(alloc, said, before, names.as_slice()),
@@ -109,21 +110,17 @@ fn is_stray(header: &IndexSet<Name>, decl: &Decl) -> bool
 }
 
 /// The fault of the first such declaration among items.
-fn stray_port(
-    alloc: Global,
-    header: &IndexSet<Name>,
-    items: &[Item],
-) -> Result<Option<ElabFault>, AllocError>
-    ensures { IfOk result (λ fault. fault ≡ stray_fault header.now.keys (flat_map item_decls items.now)) }
+fn stray_port(alloc: Global, header: &IndexSet<Name>, items: &[Item]) -> Result<(), ElabFault>
+    ensures { IsAnswer (stray_fault header.now.keys (flat_map item_decls items.now)) result }
 {
     for item in items {
         if let Item::Decl(decl) = item {
             if is_stray(header, decl) {
-                return Ok(Some(bad_port(alloc, &decl.name)?));
+                return Err(bad_port(alloc, &decl.name)?);
             }
         }
     }
-    Ok(None)
+    Ok(())
 }
 
 /// The fault of a module's ports, where `said` is what its declarations say.
@@ -131,15 +128,12 @@ pub fn port_fault(
     alloc: Global,
     said: &IndexMap<Name, Said>,
     module: &Module,
-) -> Result<Option<ElabFault>, AllocError>
+) -> Result<(), ElabFault>
     requires { said.now.entries ≡ fold with_decl [] (declarations «module».now) }
-    ensures { IfOk result (λ fault. fault ≡ bad_port «module».now) }
+    ensures { IsAnswer (bad_port «module».now) result }
 {
     let mut header = IndexSet::new(alloc);
-    if let Some(fault) = odd_port(alloc, said, &mut header, &module.header)? {
-        return Ok(Some(fault));
-    }
+    odd_port(alloc, said, &mut header, &module.header)?;
     // The declarations of the header name its own names.
-    let fault = stray_port(alloc, &header, module.items.as_slice())?;
-    Ok(fault)
+    stray_port(alloc, &header, module.items.as_slice())
 }

@@ -1,6 +1,6 @@
 //! The bits that references name.
 
-ghost use Rattle.std.specs.Prelude.{◌≡◌, ◌+◌, ◌<◌, ◌^◌, IfSome, IfNone, Some, None};
+ghost use Rattle.std.specs.Prelude.{◌≡◌};
 ghost use Rattle.bb_scope.specs.References.{is_in_range, selected, width_of, span_fault};
 
 use bb_fault::{ElabFault, range_width};

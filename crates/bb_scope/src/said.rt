@@ -1,10 +1,10 @@
 //! What the declarations of a module say of each name.
 
-ghost use Rattle.std.specs.Prelude.{◌≡◌, ◌++◌, ◌∷◌, [], OnOk, IfOk, Some, None, fold, flat_map};
+ghost use Rattle.std.specs.Prelude.{◌≡◌, [], OnOk, IfOk, None, fold, flat_map};
 ghost use Rattle.std.specs.Option.{option_or};
-ghost use Rattle.bb_base.specs.Variables.{is_port};
+ghost use Rattle.bb_fault.specs.declared.fault.ElabFault.TheVariants.{Redeclared};
 ghost use Rattle.bb_scope.specs.Declarations.{range_eq, declarations, header_decls, item_decls, redeclared};
-ghost use Rattle.bb_scope.specs.Said.{clashes_with, said_with, said_in, with_decl, clash_of, first_clash};
+ghost use Rattle.bb_scope.specs.Said.{clashes_with, said_with, with_decl, clash_of, first_clash};
 
 use bb_base::{Name, Role, is_port_role};
 use bb_fault::ElabFault;
@@ -68,78 +68,77 @@ fn said_with(said: Option<Said>, decl: &Decl) -> Said
     }
 }
 
-/// Adds a declaration, and answers its fault where it clashes with what is said.
-fn declare(
-    alloc: Global,
-    table: &mut IndexMap<Name, Said>,
-    decl: &Decl,
-) -> Result<Option<ElabFault>, AllocError>
-    ensures said { OnOk result (table.new.entries ≡ with_decl table.old.entries decl.now) }
-    ensures fault { IfOk result (λ fault. fault ≡ clash_of table.old.entries decl.now) }
-{
-    let before = table.get(&decl.name).copied();
-    table.insert(decl.name.copy(alloc)?, said_with(before, decl))?;
-    if clashes_with(before, decl) {
-        return Ok(Some(ElabFault::Redeclared {
-            name: decl.name.copy(alloc)?,
-            select: None,
-        }));
-    }
-    Ok(None)
+/// What the declarations so far say, and the fault of the first that clashes with one before it.
+#[derive(Drop)]
+struct Declarations {
+    said: IndexMap<Name, Said>,
+    clash: Option<ElabFault>,
 }
 
-/// Adds declarations, and answers the first fault.
-fn declare_all(
-    alloc: Global,
-    table: &mut IndexMap<Name, Said>,
-    decls: &[Decl],
-) -> Result<Option<ElabFault>, AllocError>
-    ensures said { OnOk result (table.new.entries ≡ fold with_decl table.old.entries decls.now) }
-    ensures fault { IfOk result (λ fault. fault ≡ first_clash table.old.entries decls.now) }
+/// The fault of a name that is declared again.
+fn redeclared(alloc: Global, name: &Name) -> Result<ElabFault, AllocError>
+    ensures { IfOk result (λ fault. fault ≡ Redeclared name.now None) }
 {
-    let mut first = None;
-    for decl in decls {
-        let fault = declare(alloc, table, decl)?;
-        first = first.or(fault);
-    }
-    Ok(first)
+    Ok(ElabFault::Redeclared {
+        name: name.copy(alloc)?,
+        select: None,
+    })
 }
 
-/// Adds the declarations among items, and answers the first fault.
-fn declare_items(
-    alloc: Global,
-    table: &mut IndexMap<Name, Said>,
-    items: &[Item],
-) -> Result<Option<ElabFault>, AllocError>
-    ensures said { OnOk result (table.new.entries ≡ fold with_decl table.old.entries (flat_map item_decls items.now)) }
-    ensures fault { IfOk result (λ fault. fault ≡ first_clash table.old.entries (flat_map item_decls items.now)) }
-{
-    let mut first = None;
-    for item in items {
-        if let Item::Decl(decl) = item {
-            let fault = declare(alloc, table, decl)?;
-            first = first.or(fault);
+impl Declarations {
+    /// Adds a declaration.
+    fn declare(&mut self, alloc: Global, decl: &Decl) -> Result<(), AllocError>
+        ensures said { OnOk result (self.new.said.entries ≡ with_decl self.old.said.entries decl.now) }
+        ensures clash { OnOk result (self.new.clash ≡ option_or self.old.clash (clash_of self.old.said.entries decl.now)) }
+    {
+        let before = self.said.get(&decl.name).copied();
+        self.said
+            .insert(decl.name.copy(alloc)?, said_with(before, decl))?;
+        if self.clash.is_some() || !clashes_with(before, decl) {
+            return Ok(());
+        }
+        self.clash = Some(redeclared(alloc, &decl.name)?);
+        Ok(())
+    }
+
+    /// Adds declarations.
+    fn declare_all(&mut self, alloc: Global, decls: &[Decl]) -> Result<(), AllocError>
+        ensures said { OnOk result (self.new.said.entries ≡ fold with_decl self.old.said.entries decls.now) }
+        ensures clash { OnOk result (self.new.clash ≡ option_or self.old.clash (first_clash self.old.said.entries decls.now)) }
+    {
+        for decl in decls {
+            self.declare(alloc, decl)?;
+        }
+        Ok(())
+    }
+
+    /// Adds the declarations among items.
+    fn declare_items(&mut self, alloc: Global, items: &[Item]) -> Result<(), AllocError>
+        ensures said { OnOk result (self.new.said.entries ≡ fold with_decl self.old.said.entries (flat_map item_decls items.now)) }
+        ensures clash { OnOk result (self.new.clash ≡ option_or self.old.clash (first_clash self.old.said.entries (flat_map item_decls items.now))) }
+    {
+        for item in items {
+            if let Item::Decl(decl) = item {
+                self.declare(alloc, decl)?;
+            }
+        }
+        Ok(())
+    }
+
+    /// Adds the declarations of a header.
+    fn declare_header(&mut self, alloc: Global, header: &Header) -> Result<(), AllocError>
+        ensures said { OnOk result (self.new.said.entries ≡ fold with_decl self.old.said.entries (header_decls header.now)) }
+        ensures clash { OnOk result (self.new.clash ≡ option_or self.old.clash (first_clash self.old.said.entries (header_decls header.now))) }
+    {
+        match header {
+            Header::Plain(_) => Ok(()),
+            Header::Ansi(decls) => self.declare_all(alloc, decls.as_slice()),
         }
     }
-    Ok(first)
 }
 
-/// Adds the declarations of a header, and answers the first fault.
-fn declare_header(
-    alloc: Global,
-    table: &mut IndexMap<Name, Said>,
-    header: &Header,
-) -> Result<Option<ElabFault>, AllocError>
-    ensures said { OnOk result (table.new.entries ≡ fold with_decl table.old.entries (header_decls header.now)) }
-    ensures fault { IfOk result (λ fault. fault ≡ first_clash table.old.entries (header_decls header.now)) }
-{
-    match header {
-        Header::Plain(_) => Ok(None),
-        Header::Ansi(decls) => declare_all(alloc, table, decls.as_slice()),
-    }
-}
-
-/// What the declarations of a module say, and the fault of the first that clashes with one before it.
+/// What the declarations of a module say, and the fault of the first that clashes with one before it. A reserved name has its fault
+/// before that one's, so the fault is no error here.
 pub fn declared(
     alloc: Global,
     module: &Module,
@@ -147,8 +146,12 @@ pub fn declared(
     ensures said { IfOk result (λ r. r.0.entries ≡ fold with_decl [] (declarations «module».now)) }
     ensures fault { IfOk result (λ r. r.1 ≡ redeclared «module».now) }
 {
-    let mut table = IndexMap::new(alloc);
-    let in_header = declare_header(alloc, &mut table, &module.header)?;
-    let in_items = declare_items(alloc, &mut table, module.items.as_slice())?;
-    Ok((table, in_header.or(in_items)))
+    let mut all = Declarations {
+        said: IndexMap::new(alloc),
+        clash: None,
+    };
+    all.declare_header(alloc, &module.header)?;
+    all.declare_items(alloc, module.items.as_slice())?;
+    let Declarations { said, clash } = all;
+    Ok((said, clash))
 }

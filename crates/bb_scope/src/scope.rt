@@ -1,6 +1,6 @@
 //! The variables of a module with the places of their bits.
 
-ghost use Rattle.std.specs.Prelude.{◌≡◌, ◌≤◌, ◌<◌, ◌+◌, ◌-◌, ◌^◌, ◌∷◌, [], Some, length, slice_get, IfOk, OnOk, IfSome, IfNone};
+ghost use Rattle.std.specs.Prelude.{◌≡◌, ◌≤◌, ◌<◌, ◌+◌, ◌-◌, ◌^◌, ◌∷◌, [], Some, length, slice_get, IfOk};
 ghost use Rattle.std.specs.List.{range_with_len};
 ghost use Rattle.bb_base.specs.Variables.{range_width, bit_count};
 ghost use Rattle.bb_scope.specs.References.{ref_span, ref_bits};
@@ -63,21 +63,10 @@ impl Bits {
     }
 }
 
-/// The number behind a variable's bits, where it is a word.
-fn end_of(first: u32, range: Option<(u32, u32)>) -> Option<u32>
-    ensures some { IfSome result (λ end. end ≡ first + range_width range) }
-    ensures none { IfNone result (2 ^ 32 ≤ first + range_width range) }
-{
-    match u32::try_from(range_width(range)) {
-        Ok(width) => first.checked_add(width),
-        Err(_) => None,
-    }
-}
-
 /// The place of each variable, and then that of a scalar behind all others.
 fn places_of(alloc: Global, table: &IndexMap<Name, Variable>) -> Result<Vec<Place>, AllocError>
-    ensures places { IfOk result (λ places. places.items ≡ places_from 0 table.now.entries) }
-    ensures few { OnOk result (bit_count table.now.entries + 1 < 2 ^ 32) }
+    requires { bit_count table.now.entries + 1 < 2 ^ 32 }
+    ensures { IfOk result (λ places. places.items ≡ places_from 0 table.now.entries) }
 {
     let mut places = Vec::with_capacity(alloc, table.len() + 1)?;
     let mut first: u32 = 0;
@@ -85,22 +74,16 @@ fn places_of(alloc: Global, table: &IndexMap<Name, Variable>) -> Result<Vec<Plac
         let (_, variable) = table.get_index(index).unwrap();
         let range = variable.range;
         places.push(Place { first, range })?;
-        let Some(end) = end_of(first, range) else {
-            return Err(AllocError);
-        };
-        first = end;
+        first += range_width(range) as u32;
     }
-    // The scalar behind all others has a number too.
-    let Some(_) = first.checked_add(1) else {
-        return Err(AllocError);
-    };
     places.push(Place { first, range: None })?;
     Ok(places)
 }
 
 impl Scope {
-    /// The variables with the places of their bits. (Numbers run out long after the limit on bits.)
+    /// The variables with the places of their bits. Their bits and one more have numbers of 32 bits: more bits are a fault that comes before.
     pub fn new(alloc: Global, table: IndexMap<Name, Variable>) -> Result<Scope, AllocError>
+        requires { bit_count table.entries + 1 < 2 ^ 32 }
         ensures { IfOk result (λ scope. scope ≡ table.entries) }
     {
         let places = places_of(alloc, &table)?;
@@ -108,16 +91,16 @@ impl Scope {
     }
 
     /// The place of the variable of this index.
-    fn place(&self, index: u32) -> Place
+    fn place(&self, index: usize) -> Place
         requires { index ≤ length self.now }
         ensures place { slice_get (places_from 0 self.now) index ≡ Some result }
         ensures few { result.first + range_width result.range < 2 ^ 32 }
     {
-        self.places[index as usize]
+        self.places[index]
     }
 
     /// The span that a reference names, whose variable is the first of `uses`, none where its select is bad.
-    pub fn span(&self, uses: &[u32], reference: &Ref) -> Option<Span>
+    pub fn span(&self, uses: &[usize], reference: &Ref) -> Option<Span>
         requires { AreNext self.now (reference.now.name ∷ []) uses.now }
         ensures { result ≡ ref_span self.now reference.now }
     {
@@ -126,7 +109,7 @@ impl Scope {
     }
 
     /// The bits that a reference names, whose variable is the first of `uses`, none where its select is bad.
-    pub fn bits(&self, uses: &[u32], reference: &Ref) -> Bits
+    pub fn bits(&self, uses: &[usize], reference: &Ref) -> Bits
         requires { AreNext self.now (reference.now.name ∷ []) uses.now }
         ensures order { result.first ≤ result.end }
         ensures bits { range_with_len result.first (result.end - result.first) ≡ ref_bits self.now reference.now }

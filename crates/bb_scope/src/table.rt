@@ -1,15 +1,14 @@
 //! The variables of a module, and which of them each use of a name is.
 
-ghost use Rattle.std.specs.Prelude.{◌≡◌, ◌++◌, ◌∷◌, [], ℕ, ◌-◌, ◌+◌, ◌^◌, OnOk, IfOk, Some, None, fold, map, flat_map, find, min};
-ghost use Rattle.std.specs.Option.{option_map, option_copied};
+ghost use Rattle.std.specs.Prelude.{◌≡◌, ◌∷◌, [], OnOk, IfOk, fold, map, flat_map, find};
+ghost use Rattle.std.specs.Option.{option_copied};
 ghost use Rattle.indexmap.specs.IndexMap.{keys};
-ghost use Rattle.bb_base.specs.Variables.{range_width, bit_count};
 ghost use Rattle.bb_base.specs.OwnNames.{is_reserved};
+ghost use Rattle.bb_scope.specs.Answers.{IsAnswer};
 ghost use Rattle.bb_scope.specs.Names.{steps_names, pin_names, item_names, header_names, mentioned, reserved};
 ghost use Rattle.bb_scope.specs.Declarations.{declarations};
 ghost use Rattle.bb_scope.specs.Variables.{variables};
-ghost use Rattle.bb_fault.specs.Limits.{told_count, too_many};
-ghost use Rattle.bb_scope.specs.Said.{said_in, variable_said, with_said, with_decl};
+ghost use Rattle.bb_scope.specs.Said.{variable_said, with_said, with_decl};
 ghost use Rattle.bb_scope.specs.Uses.{index_in, uses_of, with_use};
 
 use crate::said::Said;
@@ -24,7 +23,7 @@ use std::marker::Model;
 #[derive(Drop)]
 pub struct Used {
     pub table: IndexMap<Name, Variable>,
-    pub uses: Vec<u32>,
+    pub uses: Vec<usize>,
 }
 
 impl Model for Used {
@@ -51,30 +50,20 @@ fn variable_said(said: Option<Said>) -> Variable
     }
 }
 
-/// A number of a variable as a word. (Numbers run out long after the limit on bits.)
-fn word(index: usize) -> Result<u32, AllocError>
-    ensures { IfOk result (λ word. word ≡ index) }
-{
-    match u32::try_from(index) {
-        Ok(word) => Ok(word),
-        Err(_) => Err(AllocError),
-    }
-}
-
 /// The index of the variable of a name, which is added unless it stands.
 fn index_of(
     alloc: Global,
     said: &IndexMap<Name, Said>,
     table: &mut IndexMap<Name, Variable>,
     name: &Name,
-) -> Result<u32, AllocError>
+) -> Result<usize, AllocError>
     ensures table { OnOk result (table.new.entries ≡ with_said said.now.entries table.old.entries name.now) }
     ensures index { IfOk result (λ index. index ≡ index_in table.old.entries name.now) }
 {
     if let Some(index) = table.get_index_of(name) {
-        return word(index);
+        return Ok(index);
     }
-    let index = word(table.len())?;
+    let index = table.len();
     let variable = variable_said(said.get(name).copied());
     table.insert(name.copy(alloc)?, variable)?;
     Ok(index)
@@ -297,18 +286,18 @@ pub fn reserved_fault(
     own: bool,
     module: &Module,
     table: &IndexMap<Name, Variable>,
-) -> Result<Option<ElabFault>, AllocError>
+) -> Result<(), ElabFault>
     requires { table.now.entries ≡ variables «module».now }
-    ensures { IfOk result (λ fault. fault ≡ reserved own «module».now) }
+    ensures { IsAnswer (reserved own «module».now) result }
 {
     if own {
-        return Ok(None);
+        return Ok(());
     }
     match first_reserved(module, table) {
-        None => Ok(None),
-        Some(name) => Ok(Some(ElabFault::Reserved {
+        None => Ok(()),
+        Some(name) => Err(ElabFault::Reserved {
             name: name.copy(alloc)?,
             select: None,
-        })),
+        }),
     }
 }

@@ -1,21 +1,21 @@
 //! The uses of names: the index of the variable of each, in the text's order. A part's uses stand first in a list of them, and those
 //! of what comes behind it follow.
 
-ghost use Rattle.std.specs.Prelude.{◌≡◌, drop, length, map, flat_map};
+ghost use Rattle.std.specs.Prelude.{◌≡◌, drop, length, flat_map};
 ghost use Rattle.bb_scope.specs.Names.{step_names, steps_names, pin_names, conns_names, item_names};
 
 use bb_base::Name;
 use bb_parse::{Conns, Expr, Item, Step};
 
 /// The uses behind so many.
-pub fn behind(uses: &[u32], count: usize) -> &[u32]
+pub fn behind(uses: &[usize], count: usize) -> &[usize]
     ensures { result.now ≡ drop count uses.now }
 {
     uses.split_at(count.min(uses.len())).1
 }
 
 /// The uses behind those of a step.
-pub fn behind_step<'a>(uses: &'a [u32], step: &Step) -> &'a [u32]
+pub fn behind_step<'a>(uses: &'a [usize], step: &Step) -> &'a [usize]
     ensures { result.now ≡ drop (length (step_names step.now)) uses.now }
 {
     match step {
@@ -25,7 +25,7 @@ pub fn behind_step<'a>(uses: &'a [u32], step: &Step) -> &'a [u32]
 }
 
 /// The uses behind those of an expression.
-pub fn behind_steps<'a>(uses: &'a [u32], steps: &[Step]) -> &'a [u32]
+pub fn behind_steps<'a>(uses: &'a [usize], steps: &[Step]) -> &'a [usize]
     ensures { result.now ≡ drop (length (steps_names steps.now)) uses.now }
 {
     let mut rest = uses;
@@ -36,7 +36,7 @@ pub fn behind_steps<'a>(uses: &'a [u32], steps: &[Step]) -> &'a [u32]
 }
 
 /// The uses behind those of expressions.
-pub fn behind_terms<'a>(uses: &'a [u32], terms: &[Expr]) -> &'a [u32]
+pub fn behind_terms<'a>(uses: &'a [usize], terms: &[Expr]) -> &'a [usize]
     ensures { result.now ≡ drop (length (flat_map steps_names terms.now)) uses.now }
 {
     let mut rest = uses;
@@ -47,7 +47,7 @@ pub fn behind_terms<'a>(uses: &'a [u32], terms: &[Expr]) -> &'a [u32]
 }
 
 /// The uses behind those of what a pin is connected to.
-pub fn behind_pin<'a>(uses: &'a [u32], pin: &(Name, Option<Expr>)) -> &'a [u32]
+pub fn behind_pin<'a>(uses: &'a [usize], pin: &(Name, Option<Expr>)) -> &'a [usize]
     ensures { result.now ≡ drop (length (pin_names pin.now.1)) uses.now }
 {
     match &pin.1 {
@@ -57,7 +57,7 @@ pub fn behind_pin<'a>(uses: &'a [u32], pin: &(Name, Option<Expr>)) -> &'a [u32]
 }
 
 /// The uses behind those of what pins are connected to.
-fn behind_pins<'a>(uses: &'a [u32], pins: &[(Name, Option<Expr>)]) -> &'a [u32]
+fn behind_pins<'a>(uses: &'a [usize], pins: &[(Name, Option<Expr>)]) -> &'a [usize]
     ensures { result.now ≡ drop (length (flat_map (λ p. pin_names p.1) pins.now)) uses.now }
 {
     let mut rest = uses;
@@ -68,7 +68,7 @@ fn behind_pins<'a>(uses: &'a [u32], pins: &[(Name, Option<Expr>)]) -> &'a [u32]
 }
 
 /// The uses behind those of what an instance is connected to.
-fn behind_connections<'a>(uses: &'a [u32], conns: &Conns) -> &'a [u32]
+fn behind_connections<'a>(uses: &'a [usize], conns: &Conns) -> &'a [usize]
     ensures { result.now ≡ drop (length (conns_names conns.now)) uses.now }
 {
     match conns {
@@ -78,7 +78,7 @@ fn behind_connections<'a>(uses: &'a [u32], conns: &Conns) -> &'a [u32]
 }
 
 /// The uses behind those of an item.
-pub fn behind_item<'a>(uses: &'a [u32], item: &Item) -> &'a [u32]
+pub fn behind_item<'a>(uses: &'a [usize], item: &Item) -> &'a [usize]
     ensures { result.now ≡ drop (length (item_names item.now)) uses.now }
 {
     match item {

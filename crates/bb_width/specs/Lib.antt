@@ -1,4 +1,3 @@
 pub mod Sizes
 pub mod Parts
 pub mod Text
-pub mod Counts

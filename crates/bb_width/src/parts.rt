@@ -1,17 +1,17 @@
 //! The parts of items: pins, selects and widths, and the nets that they make.
 
-ghost use Rattle.std.specs.Prelude.{◌≡◌, ◌+◌, ◌*◌, ◌<◌, ◌≤◌, ◌^◌, ◌∷◌, ◌++◌, [], ℕ, length, take, drop, map, flat_map, OnOk, IfOk, IfErr, Some, None, true};
+ghost use Rattle.std.specs.Prelude.{◌≡◌, ◌+◌, ◌++◌, map, flat_map};
 ghost use Rattle.std.specs.List.{list_all};
-ghost use Rattle.bb_fault.specs.Firsts.{first_answer, on_some};
+ghost use Rattle.bb_fault.specs.Firsts.{first_answer};
 ghost use Rattle.bb_scope.specs.Names.{steps_names, pin_names, conns_names, item_names};
 ghost use Rattle.bb_fault.specs.Limits.{told_count};
 ghost use Rattle.bb_scope.specs.Uses.{AreNext};
-ghost use Rattle.bb_width.specs.Counts.{Counts};
+ghost use Rattle.bb_scope.specs.Answers.{IsAnswerWith};
 ghost use Rattle.bb_scope.specs.Cells.{is_plain, kind_of};
 ghost use Rattle.bb_scope.specs.Kinds.{kind_value};
-ghost use Rattle.bb_scope.specs.References.{ref_fault, width_of, left_width};
+ghost use Rattle.bb_scope.specs.References.{ref_fault, left_width};
 ghost use Rattle.bb_width.specs.Sizes.{expr_fault, value_nets};
-ghost use Rattle.bb_scope.specs.Terminals.{drives_all, out_count, outs_of};
+ghost use Rattle.bb_scope.specs.Terminals.{drives_all};
 ghost use Rattle.bb_width.specs.Parts.{are_right_terms, pin_fault, conns_fault, cell_fault, prim_fault, assign_fault, item_fault, terms_nets, pin_nets, pins_nets, conns_nets, inner_nets, open_nets, cell_nets, item_nets, items_nets};
 
 use crate::pins::{are_right, is_given, is_plain};
@@ -22,15 +22,13 @@ use bb_parse::{Conns, Expr, Item, Ref, Step};
 use bb_scope::{
     Body, Kind, Scope, behind, behind_item, behind_pin, behind_steps, bits_of, kind_of, span_fault,
 };
-use std::alloc::{AllocError, Global};
+use std::alloc::Global;
 
 /// How many bits the references of a left side have together, or the first fault.
 #[tactic(auto, using(bb_scope::proofs::UseLaws::use_laws))]
-fn left_width(scope: &Scope, line: u32, uses: &[u32], left: &[Ref]) -> Result<u128, ElabFault>
+fn left_width(scope: &Scope, line: u32, uses: &[usize], left: &[Ref]) -> Result<u128, ElabFault>
     requires { AreNext scope.now (map (λ r. r.name) left.now) uses.now }
-    ensures fault { IfErr result (λ fault. first_answer (ref_fault scope.now line) left.now ≡ Some fault) }
-    ensures fine { OnOk result (first_answer (ref_fault scope.now line) left.now ≡ None) }
-    ensures width { IfOk result (λ width. width ≡ left_width scope.now left.now) }
+    ensures { IsAnswerWith (first_answer (ref_fault scope.now line) left.now) (left_width scope.now left.now) result }
 {
     let mut width: u128 = 0;
     let mut rest = uses;
@@ -50,22 +48,20 @@ fn terms(
     alloc: Global,
     scope: &Scope,
     line: u32,
-    uses: &[u32],
+    uses: &[usize],
     terms: &[Expr],
-) -> Result<Result<u64, ElabFault>, AllocError>
+) -> Result<u64, ElabFault>
     requires { AreNext scope.now (flat_map steps_names terms.now) uses.now }
-    ensures { IfOk result (λ found. Counts (first_answer (expr_fault scope.now line 1) terms.now) (told_count (terms_nets scope.now terms.now)) found) }
+    ensures { IsAnswerWith (first_answer (expr_fault scope.now line 1) terms.now) (told_count (terms_nets scope.now terms.now)) result }
 {
     let mut nets: u64 = 0;
     let mut rest = uses;
     for term in terms {
-        match terminal(alloc, scope, line, rest, term.as_slice())? {
-            Ok(more) => nets = nets.saturating_add(more),
-            Err(fault) => return Ok(Err(fault)),
-        }
+        let more = terminal(alloc, scope, line, rest, term.as_slice())?;
+        nets = nets.saturating_add(more);
         rest = behind_steps(rest, term.as_slice());
     }
-    Ok(Ok(nets))
+    Ok(nets)
 }
 
 /// The nets of what a pin is connected to, or the first fault.
@@ -73,14 +69,14 @@ fn pin(
     alloc: Global,
     scope: &Scope,
     line: u32,
-    uses: &[u32],
+    uses: &[usize],
     pin: &(Name, Option<Expr>),
-) -> Result<Result<u64, ElabFault>, AllocError>
+) -> Result<u64, ElabFault>
     requires { AreNext scope.now (pin_names pin.now.1) uses.now }
-    ensures { IfOk result (λ found. Counts (pin_fault scope.now line pin.now) (told_count (pin_nets scope.now pin.now)) found) }
+    ensures { IsAnswerWith (pin_fault scope.now line pin.now) (told_count (pin_nets scope.now pin.now)) result }
 {
     match &pin.1 {
-        None => Ok(Ok(0)),
+        None => Ok(0),
         Some(steps) => terminal(alloc, scope, line, uses, steps.as_slice()),
     }
 }
@@ -90,22 +86,20 @@ fn pins(
     alloc: Global,
     scope: &Scope,
     line: u32,
-    uses: &[u32],
+    uses: &[usize],
     pins: &[(Name, Option<Expr>)],
-) -> Result<Result<u64, ElabFault>, AllocError>
+) -> Result<u64, ElabFault>
     requires { AreNext scope.now (flat_map (λ p. pin_names p.1) pins.now) uses.now }
-    ensures { IfOk result (λ found. Counts (first_answer (pin_fault scope.now line) pins.now) (told_count (pins_nets scope.now pins.now)) found) }
+    ensures { IsAnswerWith (first_answer (pin_fault scope.now line) pins.now) (told_count (pins_nets scope.now pins.now)) result }
 {
     let mut nets: u64 = 0;
     let mut rest = uses;
     for one in pins {
-        match pin(alloc, scope, line, rest, one)? {
-            Ok(more) => nets = nets.saturating_add(more),
-            Err(fault) => return Ok(Err(fault)),
-        }
+        let more = pin(alloc, scope, line, rest, one)?;
+        nets = nets.saturating_add(more);
         rest = behind_pin(rest, one);
     }
-    Ok(Ok(nets))
+    Ok(nets)
 }
 
 /// The nets of what an instance is connected to, or the first fault.
@@ -113,11 +107,11 @@ fn connections(
     alloc: Global,
     scope: &Scope,
     line: u32,
-    uses: &[u32],
+    uses: &[usize],
     conns: &Conns,
-) -> Result<Result<u64, ElabFault>, AllocError>
+) -> Result<u64, ElabFault>
     requires { AreNext scope.now (conns_names conns.now) uses.now }
-    ensures { IfOk result (λ found. Counts (conns_fault scope.now line conns.now) (told_count (conns_nets scope.now conns.now)) found) }
+    ensures { IsAnswerWith (conns_fault scope.now line conns.now) (told_count (conns_nets scope.now conns.now)) result }
 {
     match conns {
         Conns::Places(places) => terms(alloc, scope, line, uses, places.as_slice()),
@@ -158,22 +152,20 @@ fn cell(
     scope: &Scope,
     line: u32,
     name: &Name,
-    uses: &[u32],
+    uses: &[usize],
     conns: &Conns,
-) -> Result<Result<u64, ElabFault>, AllocError>
+) -> Result<u64, ElabFault>
     requires { AreNext scope.now (conns_names conns.now) uses.now }
-    ensures { IfOk result (λ found. Counts (cell_fault scope.now line (kind_of name.now) conns.now) (told_count (cell_nets scope.now (kind_of name.now) conns.now)) found) }
+    ensures { IsAnswerWith (cell_fault scope.now line (kind_of name.now) conns.now) (told_count (cell_nets scope.now (kind_of name.now) conns.now)) result }
 {
     let Some(kind) = kind_of(name.bytes()) else {
-        return Ok(Ok(0));
+        return Ok(0);
     };
     if !are_right(&kind, conns) {
-        return Ok(Err(ElabFault::BadPins { line }));
+        return Err(ElabFault::BadPins { line });
     }
-    match connections(alloc, scope, line, uses, conns)? {
-        Err(fault) => Ok(Err(fault)),
-        Ok(nets) => Ok(Ok(nets.saturating_add(inner_nets(kind.body) + open_nets(&kind, conns)))),
-    }
+    let nets = connections(alloc, scope, line, uses, conns)?;
+    Ok(nets.saturating_add(inner_nets(kind.body) + open_nets(&kind, conns)))
 }
 
 /// Whether a primitive drives every terminal but the last.
@@ -216,14 +208,14 @@ fn prim(
     scope: &Scope,
     line: u32,
     op: Op,
-    uses: &[u32],
+    uses: &[usize],
     list: &[Expr],
-) -> Result<Result<u64, ElabFault>, AllocError>
+) -> Result<u64, ElabFault>
     requires { AreNext scope.now (flat_map steps_names list.now) uses.now }
-    ensures { IfOk result (λ found. Counts (prim_fault scope.now line op list.now) (told_count (terms_nets scope.now list.now)) found) }
+    ensures { IsAnswerWith (prim_fault scope.now line op list.now) (told_count (terms_nets scope.now list.now)) result }
 {
     if !are_right_terms(op, list) {
-        return Ok(Err(ElabFault::BadPins { line }));
+        return Err(ElabFault::BadPins { line });
     }
     terms(alloc, scope, line, uses, list)
 }
@@ -234,31 +226,24 @@ fn assign(
     alloc: Global,
     scope: &Scope,
     line: u32,
-    uses: &[u32],
+    uses: &[usize],
     left: &[Ref],
     right: &[Step],
-) -> Result<Result<u64, ElabFault>, AllocError>
+) -> Result<u64, ElabFault>
     requires { AreNext scope.now (map (λ r. r.name) left.now ++ steps_names right.now) uses.now }
-    ensures { IfOk result (λ found. Counts (assign_fault scope.now line left.now right.now) (told_count (value_nets scope.now right.now)) found) }
+    ensures { IsAnswerWith (assign_fault scope.now line left.now right.now) (told_count (value_nets scope.now right.now)) result }
 {
-    match left_width(scope, line, uses, left) {
-        Err(fault) => Ok(Err(fault)),
-        Ok(width) => value(alloc, scope, line, width, behind(uses, left.len()), right),
-    }
+    let width = left_width(scope, line, uses, left)?;
+    value(alloc, scope, line, width, behind(uses, left.len()), right)
 }
 
 /// The nets of an item, or its first fault.
-fn item(
-    alloc: Global,
-    scope: &Scope,
-    uses: &[u32],
-    one: &Item,
-) -> Result<Result<u64, ElabFault>, AllocError>
+fn item(alloc: Global, scope: &Scope, uses: &[usize], one: &Item) -> Result<u64, ElabFault>
     requires { AreNext scope.now (item_names one.now) uses.now }
-    ensures { IfOk result (λ found. Counts (item_fault scope.now one.now) (told_count (item_nets scope.now one.now)) found) }
+    ensures { IsAnswerWith (item_fault scope.now one.now) (told_count (item_nets scope.now one.now)) result }
 {
     match one {
-        Item::Decl(_) => Ok(Ok(0)),
+        Item::Decl(_) => Ok(0),
         Item::Assign { line, left, right } => assign(
             alloc,
             scope,
@@ -280,20 +265,18 @@ fn item(
 pub(crate) fn items(
     alloc: Global,
     scope: &Scope,
-    uses: &[u32],
+    uses: &[usize],
     list: &[Item],
-) -> Result<Result<u64, ElabFault>, AllocError>
+) -> Result<u64, ElabFault>
     requires { AreNext scope.now (flat_map item_names list.now) uses.now }
-    ensures { IfOk result (λ found. Counts (first_answer (item_fault scope.now) list.now) (told_count (items_nets scope.now list.now)) found) }
+    ensures { IsAnswerWith (first_answer (item_fault scope.now) list.now) (told_count (items_nets scope.now list.now)) result }
 {
     let mut nets: u64 = 0;
     let mut rest = uses;
     for one in list {
-        match item(alloc, scope, rest, one)? {
-            Ok(more) => nets = nets.saturating_add(more),
-            Err(fault) => return Ok(Err(fault)),
-        }
+        let more = item(alloc, scope, rest, one)?;
+        nets = nets.saturating_add(more);
         rest = behind_item(rest, one);
     }
-    Ok(Ok(nets))
+    Ok(nets)
 }

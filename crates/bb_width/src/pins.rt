@@ -1,8 +1,7 @@
 //! What an instance of a cell must be connected to.
 
-ghost use Rattle.std.specs.Prelude.{◌≡◌, ◌∷◌, [], ◌&&◌, ◌||◌, List, map, not, is_some, Some, None, nat_lt};
-ghost use Rattle.std.specs.List.{list_any, list_all};
-ghost use Rattle.std.specs.Str.{bytes_eq};
+ghost use Rattle.std.specs.Prelude.{◌≡◌, [], is_some};
+ghost use Rattle.std.specs.List.{list_all};
 ghost use Rattle.bb_fault.specs.Firsts.{first_behind};
 ghost use Rattle.bb_scope.specs.Names.{has_name};
 ghost use Rattle.bb_scope.specs.Cells.{is_plain, is_open_or_plain, by_place, is_known, is_repeated, is_given, is_right_out, are_right_pins, are_right_places, are_right};

@@ -1,14 +1,14 @@
 //! The widths of values, and how many nets expressions make.
 
-ghost use Rattle.std.specs.Prelude.{◌≡◌, ◌<◌, ◌≤◌, ◌^◌, ◌+◌, ◌∷◌, [], ℕ, length, take, drop, OnOk, IfOk, IfErr, IfNone, IfSome, Some, None, false};
+ghost use Rattle.std.specs.Prelude.{◌≡◌, ◌<◌, ◌≤◌, ◌+◌, ◌∷◌, [], length, take, drop, OnOk, IfOk, IfNone, IfSome, false};
 ghost use Rattle.bb_parse.specs.declared.syntax.Step.TheVariants as step;
 ghost use Rattle.bb_scope.specs.References.{ref_fault, ref_span, width_of, width_limit};
 ghost use Rattle.bb_scope.specs.Names.{step_names, steps_names};
 ghost use Rattle.bb_fault.specs.Limits.{told_count};
 ghost use Rattle.bb_scope.specs.Uses.{AreNext};
-ghost use Rattle.bb_width.specs.Counts.{Counts};
+ghost use Rattle.bb_scope.specs.Answers.{IsAnswer, IsAnswerWith};
 ghost use Rattle.bb_scope.specs.Cells.{is_plain};
-ghost use Rattle.bb_width.specs.Sizes.{width, of_nets, total, too_wide, differs, own_nets, two_fault, choice_fault, repeat_fault, step_fault, not_stack, two_stack, choice_stack, repeat_stack, step_stack, not_nets, two_nets, choice_nets, step_nets, steps_fault, steps_stack, steps_nets, last_size, expr_fault, terminal_nets, value_nets};
+ghost use Rattle.bb_width.specs.Sizes.{width, of_nets, total, too_wide, own_nets, two_fault, choice_fault, repeat_fault, step_fault, not_stack, two_stack, choice_stack, repeat_stack, step_stack, not_nets, two_nets, choice_nets, step_nets, steps_fault, steps_stack, steps_nets, last_size, expr_fault, terminal_nets, value_nets};
 ghost use Rattle.bb_scope.specs.Terminals.{is_last};
 
 use bb_fault::ElabFault;
@@ -78,23 +78,18 @@ impl Stack {
 }
 
 /// Puts a value on the stack, unless it is too wide.
-fn push_wide(
-    stack: &mut Stack,
-    line: u32,
-    nets: u64,
-    constants: u64,
-) -> Result<Option<ElabFault>, AllocError>
-    ensures fault { IfOk result (λ fault. fault ≡ too_wide line (record { nets = nets; constants = constants })) }
-    ensures stack { IfOk result (λ fault. fault ≡ None → stack.new ≡ record { nets = nets; constants = constants } ∷ stack.old) }
+fn push_wide(stack: &mut Stack, line: u32, nets: u64, constants: u64) -> Result<(), ElabFault>
+    ensures fault { IsAnswer (too_wide line (record { nets = nets; constants = constants })) result }
+    ensures stack { OnOk result (stack.new ≡ record { nets = nets; constants = constants } ∷ stack.old) }
 {
     if nets.saturating_add(constants) > WIDTH_LIMIT {
-        return Ok(Some(ElabFault::TooWide { line }));
+        return Err(ElabFault::TooWide { line });
     }
     stack.push(Size {
         nets: nets as u32,
         constants: constants as u32,
     })?;
-    Ok(None)
+    Ok(())
 }
 
 /// A value whose bits are nets.
@@ -128,45 +123,45 @@ fn invert(stack: &mut Stack, drives: bool) -> Result<u64, AllocError>
 }
 
 /// Two operands become one value.
-fn join_by(stack: &mut Stack, line: u32, drives: bool) -> Result<Result<u64, ElabFault>, AllocError>
-    ensures counts { IfOk result (λ found. Counts (two_fault line stack.old) (two_nets drives stack.old) found) }
-    ensures stack { IfOk result (λ found. OnOk found (stack.new ≡ two_stack stack.old)) }
+fn join_by(stack: &mut Stack, line: u32, drives: bool) -> Result<u64, ElabFault>
+    ensures counts { IsAnswerWith (two_fault line stack.old) (two_nets drives stack.old) result }
+    ensures stack { OnOk result (stack.new ≡ two_stack stack.old) }
 {
     let Some(b) = stack.pop() else {
-        return Ok(Ok(0));
+        return Ok(0);
     };
     let Some(a) = stack.pop() else {
-        return Ok(Ok(0));
+        return Ok(0);
     };
     let bits = width(a);
     if bits != width(b) {
-        return Ok(Err(ElabFault::WidthDiffers { line }));
+        return Err(ElabFault::WidthDiffers { line });
     }
     push_nets(stack, bits)?;
-    Ok(Ok(a.constants as u64 + b.constants as u64 + own_nets(drives, bits)))
+    Ok(a.constants as u64 + b.constants as u64 + own_nets(drives, bits))
 }
 
 /// A condition and two operands become one value.
-fn choose(stack: &mut Stack, line: u32, drives: bool) -> Result<Result<u64, ElabFault>, AllocError>
-    ensures counts { IfOk result (λ found. Counts (choice_fault line stack.old) (choice_nets drives stack.old) found) }
-    ensures stack { IfOk result (λ found. OnOk found (stack.new ≡ choice_stack stack.old)) }
+fn choose(stack: &mut Stack, line: u32, drives: bool) -> Result<u64, ElabFault>
+    ensures counts { IsAnswerWith (choice_fault line stack.old) (choice_nets drives stack.old) result }
+    ensures stack { OnOk result (stack.new ≡ choice_stack stack.old) }
 {
     let Some(b) = stack.pop() else {
-        return Ok(Ok(0));
+        return Ok(0);
     };
     let Some(a) = stack.pop() else {
-        return Ok(Ok(0));
+        return Ok(0);
     };
     let Some(condition) = stack.pop() else {
-        return Ok(Ok(0));
+        return Ok(0);
     };
     let bits = width(a);
     if width(condition) != 1 || bits != width(b) {
-        return Ok(Err(ElabFault::WidthDiffers { line }));
+        return Err(ElabFault::WidthDiffers { line });
     }
     push_nets(stack, bits)?;
     let grounded = condition.constants as u64 + a.constants as u64 + b.constants as u64;
-    Ok(Ok(grounded + 1 + 2 * bits as u64 + own_nets(drives, bits)))
+    Ok(grounded + 1 + 2 * bits as u64 + own_nets(drives, bits))
 }
 
 /// Takes the last values, and answers their bits together.
@@ -188,35 +183,25 @@ fn take_last(stack: &mut Stack, count: u64) -> (u64, u64)
 }
 
 /// The last values become one, side by side.
-fn join(stack: &mut Stack, line: u32, count: u64) -> Result<Option<ElabFault>, AllocError>
-    ensures fault { IfOk result (λ fault. fault ≡ too_wide line (total (take count stack.old))) }
-    ensures stack { IfOk result (λ fault. fault ≡ None → stack.new ≡ total (take count stack.old) ∷ drop count stack.old) }
+fn join(stack: &mut Stack, line: u32, count: u64) -> Result<(), ElabFault>
+    ensures fault { IsAnswer (too_wide line (total (take count stack.old))) result }
+    ensures stack { OnOk result (stack.new ≡ total (take count stack.old) ∷ drop count stack.old) }
 {
     let (nets, constants) = take_last(stack, count);
     push_wide(stack, line, nets, constants)
 }
 
 /// The last value becomes so many copies of it, side by side.
-fn repeat(stack: &mut Stack, line: u32, times: u32) -> Result<Option<ElabFault>, AllocError>
-    ensures fault { IfOk result (λ fault. fault ≡ repeat_fault line times stack.old) }
-    ensures stack { IfOk result (λ fault. fault ≡ None → stack.new ≡ repeat_stack times stack.old) }
+fn repeat(stack: &mut Stack, line: u32, times: u32) -> Result<(), ElabFault>
+    ensures fault { IsAnswer (repeat_fault line times stack.old) result }
+    ensures stack { OnOk result (stack.new ≡ repeat_stack times stack.old) }
 {
     let Some(a) = stack.pop() else {
-        return Ok(None);
+        return Ok(());
     };
     let nets = (a.nets as u64).saturating_mul(times as u64);
     let constants = (a.constants as u64).saturating_mul(times as u64);
     push_wide(stack, line, nets, constants)
-}
-
-/// No nets, unless there is a fault.
-fn without_nets(fault: Option<ElabFault>) -> Result<u64, ElabFault>
-    ensures { Counts fault 0 result }
-{
-    match fault {
-        None => Ok(0),
-        Some(fault) => Err(fault),
-    }
 }
 
 /// A reference becomes a value.
@@ -224,15 +209,15 @@ fn push_ref(
     scope: &Scope,
     stack: &mut Stack,
     line: u32,
-    uses: &[u32],
+    uses: &[usize],
     reference: &Ref,
-) -> Result<Option<ElabFault>, AllocError>
+) -> Result<(), ElabFault>
     requires { AreNext scope.now (reference.now.name ∷ []) uses.now }
-    ensures fault { IfOk result (λ fault. fault ≡ ref_fault scope.now line reference.now) }
-    ensures stack { IfOk result (λ fault. fault ≡ None → stack.new ≡ of_nets (width_of (ref_span scope.now reference.now)) ∷ stack.old) }
+    ensures fault { IsAnswer (ref_fault scope.now line reference.now) result }
+    ensures stack { OnOk result (stack.new ≡ of_nets (width_of (ref_span scope.now reference.now)) ∷ stack.old) }
 {
     match scope.span(uses, reference) {
-        None => Ok(Some(ElabFault::BadSelect { line })),
+        None => Err(ElabFault::BadSelect { line }),
         Some(span) => push_wide(stack, line, span.width, 0),
     }
 }
@@ -242,28 +227,37 @@ fn step(
     scope: &Scope,
     line: u32,
     drives: bool,
-    uses: &[u32],
+    uses: &[usize],
     step: &Step,
     stack: &mut Stack,
-) -> Result<Result<u64, ElabFault>, AllocError>
+) -> Result<u64, ElabFault>
     requires { AreNext scope.now (step_names step.now) uses.now }
-    ensures counts { IfOk result (λ found. Counts (step_fault scope.now line step.now stack.old) (step_nets drives step.now stack.old) found) }
-    ensures stack { IfOk result (λ found. OnOk found (stack.new ≡ step_stack scope.now step.now stack.old)) }
+    ensures counts { IsAnswerWith (step_fault scope.now line step.now stack.old) (step_nets drives step.now stack.old) result }
+    ensures stack { OnOk result (stack.new ≡ step_stack scope.now step.now stack.old) }
 {
     match step {
-        Step::Ref(reference) => Ok(without_nets(push_ref(scope, stack, line, uses, reference)?)),
+        Step::Ref(reference) => {
+            push_ref(scope, stack, line, uses, reference)?;
+            Ok(0)
+        }
         Step::Const { size, value: _ } => {
             stack.push(Size {
                 nets: 0,
                 constants: *size as u32,
             })?;
-            Ok(Ok(0))
+            Ok(0)
         }
-        Step::Not => Ok(Ok(invert(stack, drives)?)),
+        Step::Not => Ok(invert(stack, drives)?),
         Step::And | Step::Or | Step::Xor | Step::Xnor => join_by(stack, line, drives),
         Step::Cond => choose(stack, line, drives),
-        Step::Join(count) => Ok(without_nets(join(stack, line, *count)?)),
-        Step::Repeat(times) => Ok(without_nets(repeat(stack, line, *times)?)),
+        Step::Join(count) => {
+            join(stack, line, *count)?;
+            Ok(0)
+        }
+        Step::Repeat(times) => {
+            repeat(stack, line, *times)?;
+            Ok(0)
+        }
     }
 }
 
@@ -296,28 +290,25 @@ fn walk(
     scope: &Scope,
     line: u32,
     drives: bool,
-    uses: &[u32],
+    uses: &[usize],
     steps: &[Step],
-) -> Result<Result<(Size, u64), ElabFault>, AllocError>
+) -> Result<(Size, u64), ElabFault>
     requires { AreNext scope.now (steps_names steps.now) uses.now }
-    ensures fault { IfOk result (λ found. IfErr found (λ fault. steps_fault scope.now line steps.now [] ≡ Some fault)) }
-    ensures fine { IfOk result (λ found. OnOk found (steps_fault scope.now line steps.now [] ≡ None)) }
-    ensures size { IfOk result (λ found. IfOk found (λ value. value.0 ≡ last_size (steps_stack scope.now steps.now []))) }
-    ensures narrow { IfOk result (λ found. IfOk found (λ value. width value.0 ≤ width_limit)) }
-    ensures nets { IfOk result (λ found. IfOk found (λ value. value.1 ≡ told_count (steps_nets scope.now drives steps.now []))) }
+    ensures fault { IsAnswer (steps_fault scope.now line steps.now []) result }
+    ensures size { IfOk result (λ value. value.0 ≡ last_size (steps_stack scope.now steps.now [])) }
+    ensures narrow { IfOk result (λ value. width value.0 ≤ width_limit) }
+    ensures nets { IfOk result (λ value. value.1 ≡ told_count (steps_nets scope.now drives steps.now [])) }
 {
     let mut stack = Stack::new(alloc);
     let mut nets: u64 = 0;
     let mut rest = uses;
     for (index, one) in steps.iter().enumerate() {
         let driving = drives && is_at_end(steps, index);
-        match step(scope, line, driving, rest, one, &mut stack)? {
-            Ok(more) => nets = nets.saturating_add(more),
-            Err(fault) => return Ok(Err(fault)),
-        }
+        let more = step(scope, line, driving, rest, one, &mut stack)?;
+        nets = nets.saturating_add(more);
         rest = behind_step(rest, one);
     }
-    Ok(Ok((last_size(&mut stack), nets)))
+    Ok((last_size(&mut stack), nets))
 }
 
 /// The reference that an expression is, where it is one.
@@ -332,9 +323,14 @@ fn only_reference(steps: &[Step]) -> Option<&Ref>
 }
 
 /// The nets of a reference at a terminal or pin, which are none, or its fault. Most terminals are references, so they get no stack.
-fn plain_terminal(scope: &Scope, line: u32, uses: &[u32], reference: &Ref) -> Result<u64, ElabFault>
+fn plain_terminal(
+    scope: &Scope,
+    line: u32,
+    uses: &[usize],
+    reference: &Ref,
+) -> Result<u64, ElabFault>
     requires { AreNext scope.now (reference.now.name ∷ []) uses.now }
-    ensures { Counts (expr_fault scope.now line 1 (step.Ref reference.now ∷ [])) 0 result }
+    ensures { IsAnswerWith (expr_fault scope.now line 1 (step.Ref reference.now ∷ [])) 0 result }
 {
     let span = scope.span(uses, reference);
     if let Some(fault) = span_fault(line, span) {
@@ -351,24 +347,20 @@ pub(crate) fn terminal(
     alloc: Global,
     scope: &Scope,
     line: u32,
-    uses: &[u32],
+    uses: &[usize],
     steps: &[Step],
-) -> Result<Result<u64, ElabFault>, AllocError>
+) -> Result<u64, ElabFault>
     requires { AreNext scope.now (steps_names steps.now) uses.now }
-    ensures { IfOk result (λ found. Counts (expr_fault scope.now line 1 steps.now) (told_count (terminal_nets scope.now steps.now)) found) }
+    ensures { IsAnswerWith (expr_fault scope.now line 1 steps.now) (told_count (terminal_nets scope.now steps.now)) result }
 {
     if let Some(reference) = only_reference(steps) {
-        return Ok(plain_terminal(scope, line, uses, reference));
+        return plain_terminal(scope, line, uses, reference);
     }
-    match walk(alloc, scope, line, false, uses, steps)? {
-        Err(fault) => Ok(Err(fault)),
-        Ok((size, nets)) => {
-            if width(size) != 1 {
-                return Ok(Err(ElabFault::WidthDiffers { line }));
-            }
-            Ok(Ok(nets.saturating_add(size.constants as u64)))
-        }
+    let (size, nets) = walk(alloc, scope, line, false, uses, steps)?;
+    if width(size) != 1 {
+        return Err(ElabFault::WidthDiffers { line });
     }
+    Ok(nets.saturating_add(size.constants as u64))
 }
 
 /// The nets of an assign's expression, which must have this width, or the first fault.
@@ -377,19 +369,15 @@ pub(crate) fn value(
     scope: &Scope,
     line: u32,
     wanted: u128,
-    uses: &[u32],
+    uses: &[usize],
     steps: &[Step],
-) -> Result<Result<u64, ElabFault>, AllocError>
+) -> Result<u64, ElabFault>
     requires { AreNext scope.now (steps_names steps.now) uses.now }
-    ensures { IfOk result (λ found. Counts (expr_fault scope.now line wanted steps.now) (told_count (value_nets scope.now steps.now)) found) }
+    ensures { IsAnswerWith (expr_fault scope.now line wanted steps.now) (told_count (value_nets scope.now steps.now)) result }
 {
-    match walk(alloc, scope, line, true, uses, steps)? {
-        Err(fault) => Ok(Err(fault)),
-        Ok((size, nets)) => {
-            if width(size) as u128 != wanted {
-                return Ok(Err(ElabFault::WidthDiffers { line }));
-            }
-            Ok(Ok(nets))
-        }
+    let (size, nets) = walk(alloc, scope, line, true, uses, steps)?;
+    if width(size) as u128 != wanted {
+        return Err(ElabFault::WidthDiffers { line });
     }
+    Ok(nets)
 }

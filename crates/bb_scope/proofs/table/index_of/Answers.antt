@@ -1,4 +1,4 @@
-use Rattle.std.proofs.Common.{arith, ◌∙◌}
+use Rattle.std.proofs.Common.{arith}
 use Rattle.bb_scope.proofs.TableLaws.{added}
 use Rattle.bb_scope.proofs.UsedLaws.{new_index_is}
 use Rattle.bb_scope.proofs.table.index_of.Goals as goal
@@ -13,4 +13,4 @@ returns-clause-table c =
 
 pub returns-clause-index : goal.returns-clause-index
 returns-clause-index c =
-    new_index_is c.args.table.now.entries c.args.name.now c.in_ok-index.index c.in_default.ensures.index (c.in_ok-index.ensures ∙ c.len.ensures.len)
+    new_index_is c.args.table.now.entries c.args.name.now c.len-index.result c.in_default.ensures.index c.len-index.ensures.len
