@@ -10,7 +10,7 @@ use Rattle.std.specs.Option.{option_map}
 use Rattle.bb_base.specs.declared.variable.BitName.{BitName}
 use Rattle.bb_base.specs.Variables.{Entry, is_input, is_output, role_bits, bit_count}
 use Rattle.bb_netlist.specs.Net.{Gate, Flop, renamed_gate, renamed_flop}
-use Rattle.bb_net.specs.Named.{Named, IsNamed}
+use Rattle.bb_net.specs.Named.{Named, IsConsistent}
 use Rattle.bb_base.proofs.Lists.{length_map, in_front}
 use Rattle.bb_drive.specs.Work.{Work, Clocked}
 use Rattle.bb_drive.specs.Nets.{bit_name, has_bit, input_bits, output_bits, nets, driver_fault}
@@ -24,8 +24,11 @@ use Rattle.bb_assemble.proofs.NumberLaws.{filter_short}
 use Rattle.bb_assemble.proofs.RangeLaws.{filter_range}
 use Rattle.bb_assemble.proofs.NamedBits.{one_name, has_range}
 use Rattle.bb_assemble.proofs.VariableSteps.{bits_below}
-use Rattle.bb_assemble.proofs.KeptLaws.{is_net, has_filter, port_is_net, port_is_data, clock_is_input, output_is_data, bits_in}
+use Rattle.bb_drive.proofs.BitBounds.{bits_in}
+use Rattle.bb_assemble.proofs.KeptLaws.{is_net, has_filter, port_is_net, port_is_data, clock_is_input, output_is_data}
 use Rattle.bb_base.proofs.BooleanLemmas.{or_true}
+use Rattle.bb_assemble.proofs.KeptNets.{IsFineWork}
+use Rattle.bb_assemble.proofs.NumberedNets.{names_alike}
 use Rattle.bb_assemble.proofs.AssembleLaws.{inputs_named, outputs_named, nets_found}
 
 -- kept bits ---------------------------------------------------------------
@@ -216,30 +219,31 @@ parts_of name vars clock keeps gates flops first second third last a b stands c 
 }
 
 -- what is built is what the definition says
-pub built : (name : List ℕ) (vars : List Entry) (w : Work) (clock : Option ℕ) (flags : List Bool) (numbers : List ℕ) (count : ℕ) (gates : List (Gate ℕ)) (flops : List Clocked) (names : List BitName) (n : Named) → driver_fault vars w ≡ None → clock_fault vars w ≡ None
-    → IsWithin w → clock ≡ clock_of w → AreFlags w flags → IsNumbered vars w numbers count → bit_count vars ≡ length numbers → gates ≡ w.gates → flops ≡ w.flops → names ≡ map (bit_name 0 vars) (kept vars w)
-    → HasParts name vars clock names (map (renamed_gate (number_for numbers)) (filter (λ g. is_marked flags g.out) gates)) (map (numbered_flop (number_for numbers)) flops) n → IsNamed n → n ≡ named_of name vars w
-built name vars w clock flags numbers count gates flops names n drivers clocks within clock_is said h total gates_in flops_in named parts fits =
+built : (name : List ℕ) (vars : List Entry) (w : Work) (clock : Option ℕ) (flags : List Bool) (numbers : List ℕ) (count : ℕ) (gates : List (Gate ℕ)) (flops : List Clocked) (names : List BitName) (n : Named) → IsFineWork vars w
+    → clock ≡ clock_of w → AreFlags w flags → IsNumbered vars w numbers count → gates ≡ w.gates → flops ≡ w.flops → names ≡ map (bit_name 0 vars) (kept vars w)
+    → HasParts name vars clock names (map (renamed_gate (number_for numbers)) (filter (λ g. is_marked flags g.out) gates)) (map (numbered_flop (number_for numbers)) flops) n → IsConsistent n → n ≡ named_of name vars w
+built name vars w clock flags numbers count gates flops names n fine clock_is said h gates_in flops_in named parts fits =
     let f : ℕ → BitName = bit_name 0 vars in
     let K : List ℕ = kept vars w in
-    let clock_so : n.clock ≡ option_map f (clock_of w) = clock_stands vars w clock n.clock clocks within clock_is parts.clock_is in
+    let clock_so : n.clock ≡ option_map f (clock_of w) = clock_stands vars w clock n.clock fine.clocks fine.within clock_is parts.clock_is in
     let names_so : n.names ≡ map f K = parts.names_are ∙ named in
-    let ports : KeepsPorts vars w.fresh (clock_of w) (is_data w) = port_is_data vars w (clock_of w) drivers clocks within refl in
-    let below_in = recursion_from_All (λ net. net < length n.names) n.netlist.inputs (in_front (λ net. net < length n.names) n.netlist.inputs _ fits.consistent.drives_nets) in
-    let below_out = recursion_from_All (λ net. net < length n.names) n.netlist.outputs (in_front (λ net. net < length n.names) n.netlist.outputs _ fits.consistent.reads_nets) in
+    let ports : KeepsPorts vars w.fresh (clock_of w) (is_data w) = port_is_data vars w (clock_of w) fine.drivers fine.clocks fine.within refl in
+    let alike = names_alike vars w fine n.names names_so in
+    let below_in = recursion_from_All (λ net. net < length n.names) n.netlist.inputs (in_front (λ net. net < length n.names) n.netlist.inputs _ fits.drives_nets) in
+    let below_out = recursion_from_All (λ net. net < length n.names) n.netlist.outputs (in_front (λ net. net < length n.names) n.netlist.outputs _ fits.reads_nets) in
     let inputs : n.netlist.inputs ≡ map (place_among K) (filter (is_data w) (input_bits vars)) =
-    nets_found n f K n.netlist.inputs (filter (is_data w) (input_bits vars)) (one_name vars) names_so fits.alike below_in
-    (fits.consistent.inputs ∙ (λ i. role_bits is_input (clock_so i) 0 (parts.variables_are i)) ∙ inputs_named vars (clock_of w) (is_data w) w.fresh (omega (arith, total, h.long)) ports) in
+    nets_found n f K n.netlist.inputs (filter (is_data w) (input_bits vars)) (one_name vars) names_so alike below_in
+    (fits.inputs ∙ (λ i. role_bits is_input (clock_so i) 0 (parts.variables_are i)) ∙ inputs_named vars (clock_of w) (is_data w) w.fresh (omega (arith, fine.total)) ports) in
     let all_data : filter (is_data w) (output_bits vars) ≡ output_bits vars =
-    filter_all (is_data w) (output_bits vars) (λ b k. ap not (output_is_data vars w b clocks (omega (arith, total, h.long, bits_in is_output 0 vars b k)) k)) in
+    filter_all (is_data w) (output_bits vars) (λ b k. ap not (output_is_data vars w b fine.clocks (omega (arith, fine.total, bits_in is_output 0 vars b k)) k)) in
     let outputs : n.netlist.outputs ≡ map (place_among K) (output_bits vars) =
-    nets_found n f K n.netlist.outputs (output_bits vars) (one_name vars) names_so fits.alike below_out
-    (fits.consistent.outputs ∙ (λ i. role_bits is_output (clock_so i) 0 (parts.variables_are i)) ∙ outputs_named vars (clock_of w) (is_data w) w.fresh (omega (arith, total, h.long)) ports ∙ ap (map f) all_data) in
+    nets_found n f K n.netlist.outputs (output_bits vars) (one_name vars) names_so alike below_out
+    (fits.outputs ∙ (λ i. role_bits is_output (clock_so i) 0 (parts.variables_are i)) ∙ outputs_named vars (clock_of w) (is_data w) w.fresh (omega (arith, fine.total)) ports ∙ ap (map f) all_data) in
     let gates_so : n.netlist.gates ≡ map (renamed_gate (place_among K)) (filter (λ g. is_data w g.out) w.gates) =
     parts.gates_are ∙ ap (λ gs. map (renamed_gate (number_for numbers)) (filter (λ g. is_marked flags g.out) gs)) gates_in
-    ∙ gates_same (is_marked flags) (is_data w) (number_for numbers) (place_among K) w.fresh (λ b less. flag_is w flags b said less) h.each w.gates (recursion_from_All (IsGateWithin w.fresh) w.gates within.gates) in
+    ∙ gates_same (is_marked flags) (is_data w) (number_for numbers) (place_among K) w.fresh (λ b less. flag_is w flags b said less) h.each w.gates (recursion_from_All (IsGateWithin w.fresh) w.gates fine.within.gates) in
     let flops_so : n.netlist.flops ≡ map (renamed_flop (place_among K)) (map (λ k. record { q = k.q; d = k.d }) w.flops) =
-    parts.flops_are ∙ ap (map (numbered_flop (number_for numbers))) flops_in ∙ flops_same (number_for numbers) (place_among K) w.fresh h.each w.flops (recursion_from_All (IsFlopWithin w.fresh) w.flops within.flops) in
+    parts.flops_are ∙ ap (map (numbered_flop (number_for numbers))) flops_in ∙ flops_same (number_for numbers) (place_among K) w.fresh h.each w.flops (recursion_from_All (IsFlopWithin w.fresh) w.flops fine.within.flops) in
     λ i. record {
       module_name = parts.module_is i;
       variables = parts.variables_are i;
@@ -247,6 +251,14 @@ built name vars w clock flags numbers count gates flops names n drivers clocks w
       names = names_so i;
       netlist = record { inputs = inputs i; outputs = outputs i; gates = gates_so i; flops = flops_so i };
     }
+
+-- and so is what the calls of a builder make
+pub assembled : (name : List ℕ) (vars : List Entry) (w : Work) (clock : Option ℕ) (flags : List Bool) (numbers : List ℕ) (count : ℕ) (gates : List (Gate ℕ)) (flops : List Clocked) (first second third last : Named) → IsFineWork vars w
+    → clock ≡ clock_of w → AreFlags w flags → IsNumbered vars w numbers count → gates ≡ w.gates → flops ≡ w.flops → first ≡ started name → second.variables ≡ vars → AreAdded first clock (is_kept numbers count) vars second
+    → third ≡ with_gates second (map (renamed_gate (number_for numbers)) (filter (λ g. is_marked flags g.out) gates)) → last ≡ with_flops third (map (numbered_flop (number_for numbers)) flops) → IsConsistent last → last ≡ named_of name vars w
+assembled name vars w clock flags numbers count gates flops first second third last fine clock_is said h gates_in flops_in a b stands c d fits =
+    built name vars w clock flags numbers count gates flops second.names last fine clock_is said h gates_in flops_in (names_kept vars second.variables w second.names numbers count h b (fine.total ∙ sym h.long) stands.names)
+    (parts_of name vars clock (is_kept numbers count) (map (renamed_gate (number_for numbers)) (filter (λ g. is_marked flags g.out) gates)) (map (numbered_flop (number_for numbers)) flops) first second third last a b stands c d) fits
 
 -- there is a clock exactly where there is a flip-flop
 pub clocked : (name : List ℕ) (vars : List Entry) (w : Work) (clock : Option ℕ) (names : List BitName) (gates : List (Gate ℕ)) (flops : List Clocked) (number : ℕ → ℕ) (n : Named) → clock_fault vars w ≡ None → IsWithin w → clock ≡ clock_of w → flops ≡ w.flops

@@ -1,12 +1,9 @@
--- The bits of gates of data and of flip-flops have nets, and a builder refuses none of them.
-use Rattle.std.proofs.Common.{◌≡◌, ℕ, ◌<◌, List, map, All, Bool, slice_get, Some, refl, sym, subst, ◌∙◌, arith}
+-- The bits of gates of data and of flip-flops have nets.
+use Rattle.std.proofs.Common.{◌≡◌, ℕ, ◌<◌, List, map, All, Bool, slice_get, Some, sym, subst, ◌∙◌, arith}
 use Rattle.std.proofs.lemmas.List.Elements.{recursion_from_All, All-from_recursion}
 use Rattle.std.specs.List.{AllByRecursion}
 use Rattle.bb_base.specs.Variables.{Entry}
-use Rattle.bb_netlist.specs.Faults.{IsGateFault}
 use Rattle.bb_netlist.specs.Net.{Gate, HasArity}
-use Rattle.bb_netlist.specs.declared.fault.NetFault.{NetFault}
-use Rattle.bb_netlist.specs.declared.fault.NetFault.TheVariants.{Redeclared, TwoDrivers, Undriven, BadArity, TooMany, NoMemory}
 use Rattle.bb_drive.specs.Work.{Work, Clocked}
 use Rattle.bb_drive.specs.Within.{IsGateWithin}
 use Rattle.bb_assemble.specs.Assembling.{number_for, HasNet, HasNets, HasBothNets, HasNetsWhereFlagged}
@@ -19,15 +16,6 @@ pub nets_small : (numbers : List ℕ) (count n : ℕ) (g : Gate ℕ) (nets : Lis
 nets_small numbers count n g nets h same are =
     subst (All (λ net. net < n)) (sym are) (subst (λ k. All (λ net. net < k) (map (number_for numbers) g.ins)) same
     (All-from_recursion (λ net. net < count) (map (number_for numbers) g.ins) (all_images (λ net. net < count) (number_for numbers) g.ins (recursion_from_All (HasNet numbers count) g.ins h.ins))))
-
--- a gate's fault that is none of arities is want of memory
-pub memory_alone : (fault : NetFault) → IsGateFault fault → ((gate : ℕ) → fault ≡ BadArity gate → ⊥) → fault ≡ NoMemory
-memory_alone (Redeclared v) h none = absurd h
-memory_alone (TwoDrivers net) h none = absurd h
-memory_alone (Undriven net) h none = absurd h
-memory_alone (BadArity gate) h none = absurd (none gate refl)
-memory_alone (TooMany count limit) h none = absurd h
-memory_alone NoMemory h none = refl
 
 -- a kept bit has a net
 kept_net : (vars : List Entry) (w : Work) (fine : IsFineWork vars w) (numbers : List ℕ) (count b : ℕ) → IsNumbered vars w numbers count → IsKept vars w b → HasNet numbers count b

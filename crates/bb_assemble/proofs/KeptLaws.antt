@@ -10,7 +10,7 @@ use Rattle.std.specs.List.{range_with_len, AllByRecursion}
 use Rattle.std.specs.Option.{option_or, option_map}
 use Rattle.bb_base.specs.declared.variable.Role.{Role}
 use Rattle.bb_base.specs.declared.variable.Role.TheVariants.{Input, Output, Wire}
-use Rattle.bb_base.specs.Variables.{Entry, is_port, is_input, is_output, range_width, bit_count}
+use Rattle.bb_base.specs.Variables.{Entry, is_port, is_input, is_output, range_width}
 use Rattle.bb_netlist.specs.Net.{Gate}
 use Rattle.bb_fault.specs.declared.fault.ElabFault.{ElabFault}
 use Rattle.bb_fault.specs.declared.fault.ElabFault.TheVariants.{TwoDrivers, ClockNotInput, ClockAsData}
@@ -63,14 +63,6 @@ has_filter p (x ∷ xs) b = by (p x) refl (nat_eq b x) refl (p b) refl (has_filt
     by false e true f false g h = h ∙ ap (λ k. k && has_bit xs b) g
     by false e false f true g h = h ∙ ap (λ k. k && has_bit xs b) g
     by false e false f false g h = h ∙ ap (λ k. k && has_bit xs b) g
-
-pub range_in : (from n b : ℕ) → has_bit (range_with_len from n) b ≡ true → b < from + n
-range_in from zero b h = cc
-range_in from (suc n) b h = by (nat_eq b from) refl h (range_in (from + 1) n b)
-  where
-    by : (t : Bool) → nat_eq b from ≡ t → (t || has_bit (range_with_len (from + 1) n) b) ≡ true → (has_bit (range_with_len (from + 1) n) b ≡ true → b < from + 1 + n) → b < from + suc n
-    by true e k rec = let same : b ≡ from = grind (arith, nat_tests) in omega arith
-    by false e k rec = omega (arith, rec k)
 
 -- nets -------------------------------------------------------------------
 
@@ -178,10 +170,6 @@ output_is_data vars w b h less output =
 
 -- ports ----------------------------------------------------------------------
 
-pub or_split : (a b : Bool) → (a || b) ≡ true → (a ≡ true) ⊎ (b ≡ true)
-or_split true b h = inl refl
-or_split false b h = inr h
-
 swapped : {A B : Type 0} → A ⊎ B → B ⊎ A
 swapped (inl a) = inr a
 swapped (inr b) = inl b
@@ -216,22 +204,6 @@ port_split first (v ∷ vs) b h = by v.1.role h (port_split (first + range_width
         swapped (joined (has_bit here b) (has_bit outs b) (has_bit ports b) (has_bit (here ++ outs) b) (has_bit (bits_from is_input (first + range_width v.1.range) vs) b)
         (sym (list_any-append (nat_eq b) here ports) ∙ k) (list_any-append (nat_eq b) here outs) (λ l. swapped (rec l)))
     by Wire k rec = rec k
-
--- the bits of variables are below their count
-pub bits_in : (passes : Role → Bool) (first : ℕ) (vs : List Entry) (b : ℕ) → has_bit (bits_from passes first vs) b ≡ true → b < first + bit_count vs
-bits_in passes first [] b h = cc
-bits_in passes first (v ∷ vs) b h = by (passes v.1.role) h (bits_in passes (first + range_width v.1.range) vs b)
-  where
-    by : (t : Bool) → has_bit ((if t then range_with_len first (range_width v.1.range) else []) ++ bits_from passes (first + range_width v.1.range) vs) b ≡ true
-        → (has_bit (bits_from passes (first + range_width v.1.range) vs) b ≡ true → b < first + range_width v.1.range + bit_count vs) → b < first + (range_width v.1.range + bit_count vs)
-    by false k rec = omega (arith, rec k)
-    by true k rec =
-        here (or_split (has_bit (range_with_len first (range_width v.1.range)) b) (has_bit (bits_from passes (first + range_width v.1.range) vs) b)
-        (sym (list_any-append (nat_eq b) (range_with_len first (range_width v.1.range)) (bits_from passes (first + range_width v.1.range) vs)) ∙ k))
-      where
-        here : (has_bit (range_with_len first (range_width v.1.range)) b ≡ true) ⊎ (has_bit (bits_from passes (first + range_width v.1.range) vs) b ≡ true) → b < first + (range_width v.1.range + bit_count vs)
-        here (inl l) = omega (arith, range_in first (range_width v.1.range) b l)
-        here (inr l) = omega (arith, rec l)
 
 -- where drivers and clocks have no fault, every port bit is a net, and data but for the clock's
 pub port_is_net : (vars : List Entry) (w : Work) (b : ℕ) → has_bit (bits_from is_port 0 vars) b ≡ true → is_net vars w b ≡ true

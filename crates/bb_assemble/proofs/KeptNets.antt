@@ -23,7 +23,8 @@ use Rattle.bb_drive.proofs.ClockLaws.{input_free}
 use Rattle.bb_drive.proofs.WayBack.{copied_origin}
 use Rattle.bb_assemble.specs.NamedOf.{kept, by_bits}
 use Rattle.bb_assemble.proofs.NamedBits.{or_left, or_right}
-use Rattle.bb_assemble.proofs.KeptLaws.{neither, has_filter, is_net, net_found, unnamed, input_is_net, output_is_net, counted, undriven_by, stays, clock_is_input, output_is_data, bits_in, and_other}
+use Rattle.bb_drive.proofs.BitBounds.{bits_in}
+use Rattle.bb_assemble.proofs.KeptLaws.{neither, has_filter, is_net, net_found, unnamed, input_is_net, output_is_net, counted, undriven_by, stays, clock_is_input, output_is_data, and_other}
 
 -- items by their places -----------------------------------------------------
 
@@ -82,10 +83,10 @@ has_flat f (y ∷ xs) zero x b h k =
     list_any-append (nat_eq b) (f y) (flat_map f xs) ∙ or_left (has_bit (f y) b) (has_bit (flat_map f xs) b) (ap (λ z. has_bit (f z) b) same ∙ k)
 has_flat f (y ∷ xs) (suc i) x b h k = list_any-append (nat_eq b) (f y) (flat_map f xs) ∙ or_right (has_bit (f y) b) (has_bit (flat_map f xs) b) (has_flat f xs i x b h k)
 
-has_front : (xs ys : List ℕ) (b : ℕ) → has_bit xs b ≡ true → has_bit (xs ++ ys) b ≡ true
+pub has_front : (xs ys : List ℕ) (b : ℕ) → has_bit xs b ≡ true → has_bit (xs ++ ys) b ≡ true
 has_front xs ys b h = list_any-append (nat_eq b) xs ys ∙ or_left (has_bit xs b) (has_bit ys b) h
 
-has_back : (xs ys : List ℕ) (b : ℕ) → has_bit ys b ≡ true → has_bit (xs ++ ys) b ≡ true
+pub has_back : (xs ys : List ℕ) (b : ℕ) → has_bit ys b ≡ true → has_bit (xs ++ ys) b ≡ true
 has_back xs ys b h = list_any-append (nat_eq b) xs ys ∙ or_right (has_bit xs b) (has_bit ys b) h
 
 -- the only gate that drives a net is the first one
@@ -163,7 +164,7 @@ module _ (vars : List Entry) (w : Work) (fine : IsFineWork vars w) where
   parts_counted b =
       sum_by-append (λ m. cond (nat_eq b m) 1 0) (input_bits vars) (outs ++ qs) ∙ ap (λ k. count_by (nat_eq b) (input_bits vars) + k) (sum_by-append (λ m. cond (nat_eq b m) 1 0) outs qs)
 
-  driven_net : (b : ℕ) → has_bit (bits_driven vars w) b ≡ true → is_net vars w b ≡ true
+  pub driven_net : (b : ℕ) → has_bit (bits_driven vars w) b ≡ true → is_net vars w b ≡ true
   driven_net b h = or_left (has_bit (bits_driven vars w) b) (has_bit (bits_read vars w) b) h
 
   read_net : (b : ℕ) → has_bit (bits_read vars w) b ≡ true → is_net vars w b ≡ true

@@ -1,5 +1,5 @@
 -- What is made denotes a named netlist, where drivers and clocks have no fault, arities hold, and names differ.
-use Rattle.std.proofs.Common.{◌≡◌, ◌≢◌, ◌↔◌, ◌⊎◌, inl, inr, ℕ, ◌+◌, ◌-◌, ◌<◌, ◌≤◌, zero, suc, nat_eq, nat_lt, not, ◌||◌, List, [], ◌∷◌, ◌++◌, map, filter, length, All, AllPairs, Bool, true, false, Option, Some, None, IsSome, slice_get, get_or, if◌then◌else◌, refl, sym, ap, subst, ◌∙◌, arith}
+use Rattle.std.proofs.Common.{◌≡◌, ◌≢◌, ◌↔◌, ◌⊎◌, inl, inr, ℕ, ◌+◌, ◌-◌, ◌<◌, ◌≤◌, zero, suc, nat_eq, nat_lt, not, ◌||◌, List, [], ◌∷◌, ◌++◌, map, filter, length, All, AllPairs, Bool, true, false, Option, Some, None, IsSome, slice_get, if◌then◌else◌, refl, sym, ap, subst, ◌∙◌, arith}
 use Rattle.std.proofs.lemmas.Bool.Decides.{nat_tests}
 use Rattle.std.proofs.lemmas.Bool.{false≢true}
 use Rattle.std.proofs.lemmas.List.{get_or-map}
@@ -21,11 +21,12 @@ use Rattle.bb_drive.specs.Clock.{clock_of, first_of, origin, is_data}
 use Rattle.bb_assemble.specs.NamedOf.{kept, place_among, named_of}
 use Rattle.bb_assemble.specs.Assembling.{ArePortsFirst, KeepsPorts}
 use Rattle.bb_assemble.proofs.NamedBits.{one_name, name_least}
-use Rattle.bb_assemble.proofs.KeptLaws.{range_in, or_split, bits_in, clock_is_input, input_origin, output_is_data, port_is_data}
+use Rattle.bb_drive.proofs.BitBounds.{range_in, or_split, bits_in}
+use Rattle.bb_assemble.proofs.KeptLaws.{clock_is_input, input_origin, output_is_data, port_is_data}
 use Rattle.bb_assemble.proofs.AssembleLaws.{inputs_named, outputs_named}
 use Rattle.bb_assemble.proofs.BuiltLaws.{filter_all}
 use Rattle.bb_assemble.proofs.KeptNets.{all_placed, all_images, has_placed, IsFineWork, IsKept, outputs_kept}
-use Rattle.bb_assemble.proofs.NumberedNets.{distinct_apart, kept_data, kept_below, kept_distinct, drives_below, reads_below, as_many, inputs_kept, ports_few, arities_kept, is_netlist, bit_placed}
+use Rattle.bb_assemble.proofs.NumberedNets.{names_alike, kept_data, kept_below, drives_below, reads_below, as_many, inputs_kept, ports_few, arities_kept, is_netlist, bit_placed}
 
 -- bits of variables -----------------------------------------------------------
 
@@ -110,11 +111,11 @@ stands passes (v ∷ vs) number first b less = by (nat_lt b (range_width v.1.ran
             here (inr l) = l
 
 -- a bit below the count is one of a variable
-record IsBitOf (passes : Role → Bool) (vars : List Entry) (b : ℕ) : Type 0 where
-  bit : IsBit vars (bit_name 0 vars b)
-  role : has_bit (bits_from passes 0 vars) b ≡ true → passes bit.entry.1.role ≡ true
+pub record IsBitOf (passes : Role → Bool) (vars : List Entry) (b : ℕ) : Type 0 where
+  pub bit : IsBit vars (bit_name 0 vars b)
+  pub role : has_bit (bits_from passes 0 vars) b ≡ true → passes bit.entry.1.role ≡ true
 
-bit_of : (passes : Role → Bool) (vars : List Entry) (b : ℕ) → b < bit_count vars → IsBitOf passes vars b
+pub bit_of : (passes : Role → Bool) (vars : List Entry) (b : ℕ) → b < bit_count vars → IsBitOf passes vars b
 bit_of passes vars b less =
     let s = stands passes vars 0 0 b less in
     let same : (bit_name 0 vars b).variable - 0 ≡ (bit_name 0 vars b).variable = omega arith in
@@ -211,13 +212,6 @@ module _ (name : List ℕ) (vars : List Entry) (w : Work) (fine : IsFineWork var
     arities = arities_kept vars w fine arities;
   }
 
-  names_differ : AllPairs (λ a b. a ≢ b) n.names
-  names_differ i j d less within =
-      let small : j < length K = omega (arith, within, count_names) in
-      let first : get_or n.names i d ≡ f (get_or K i 0) = get_or-map f K i 0 d (omega (arith, less, small)) in
-      let second : get_or n.names j d ≡ f (get_or K j 0) = get_or-map f K j 0 d small in
-      λ same. distinct_apart K (kept_distinct vars w fine) i j 0 less small (one_name vars (get_or K i 0) (get_or K j 0) (sym first ∙ same ∙ second))
-
   clocked : IsSome n.clock ↔ (0 < length n.netlist.flops)
   clocked = by w.flops
     where
@@ -232,7 +226,7 @@ module _ (name : List ℕ) (vars : List Entry) (w : Work) (fine : IsFineWork var
     consistent = consistent arities module_name entries ports_first;
     netlist = is_netlist vars w fine arities;
     names = count_names ∙ sym (as_many vars w fine);
-    alike = names_differ;
+    alike = names_alike vars w fine n.names refl;
     apart = differ;
     clocked = clocked;
   }

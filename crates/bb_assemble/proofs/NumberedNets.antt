@@ -1,49 +1,35 @@
 -- The netlist by numbers of kept nets: each number below their count is driven once, and no other stands.
-use Rattle.std.proofs.Common.{◌≡◌, ◌≢◌, ℕ, ◌+◌, ◌<◌, ◌≤◌, ◌==◌, zero, suc, nat_eq, nat_lt, not, ◌||◌, List, [], ◌∷◌, ◌++◌, map, filter, length, All, Bool, true, false, cond, get_or, if◌then◌else◌, refl, sym, ap, subst, ◌∙◌, arith}
-use Rattle.std.specs.Prelude.{count_by, flat_map}
+use Rattle.std.proofs.Common.{◌≡◌, ◌≢◌, ℕ, ◌+◌, ◌<◌, ◌≤◌, ◌==◌, zero, suc, nat_eq, nat_lt, not, ◌||◌, List, [], ◌∷◌, ◌++◌, map, filter, length, All, AllPairs, Bool, true, false, cond, get_or, if◌then◌else◌, refl, sym, ap, subst, ◌∙◌, arith}
+use Rattle.std.specs.Prelude.{count_by}
 use Rattle.std.proofs.lemmas.Bool.Decides.{nat_tests}
 use Rattle.std.proofs.lemmas.List.Elements.{All-from_recursion}
 use Rattle.std.proofs.lemmas.List.Sums.{position_or_len_is}
 use Rattle.std.proofs.lemmas.Option.{slice_get-get_or}
 use Rattle.std.specs.List.{AllByRecursion, range_with_len}
+use Rattle.bb_base.specs.declared.variable.BitName.{BitName}
 use Rattle.bb_base.specs.declared.variable.Role.{Role}
 use Rattle.bb_base.specs.declared.variable.Role.TheVariants.{Input, Output, Wire}
 use Rattle.bb_base.specs.Variables.{Entry, is_input, is_output, range_width}
 use Rattle.bb_base.specs.Operators.{IsArity}
 use Rattle.bb_base.proofs.Distinct.{Distinct}
 use Rattle.bb_base.proofs.Lists.{map_join, map_twice, length_map, all_join, all_front}
-use Rattle.bb_netlist.specs.Net.{Gate, Flop, Netlist, renamed, renamed_gate, renamed_flop, driven, reads, times, HasArity, IsNetlist}
+use Rattle.bb_netlist.specs.Net.{Gate, Flop, Netlist, renamed_gate, driven, reads, times, HasArity, IsNetlist}
+use Rattle.bb_netlist.proofs.Renamed.{driven_renamed, reads_renamed}
 use Rattle.bb_netlist.proofs.TimesLemmas.{times_join, times_head, times_past, times_range, times_range_before, once_distinct, length_once}
 use Rattle.bb_fault.proofs.Parted.{both-first, both-second}
 use Rattle.bb_drive.specs.Work.{Work, Clocked}
-use Rattle.bb_drive.specs.Nets.{bits_from, input_bits, bits_driven, has_bit, nets}
+use Rattle.bb_drive.specs.Nets.{bit_name, bits_from, input_bits, bits_driven, has_bit, nets}
 use Rattle.bb_drive.specs.Clock.{is_data}
 use Rattle.bb_assemble.specs.NamedOf.{kept, by_bits, place_among, netlist_by_number}
-use Rattle.bb_assemble.proofs.KeptLaws.{has_filter, is_net, counted, range_in}
+use Rattle.bb_drive.proofs.BitBounds.{range_in}
+use Rattle.std.proofs.lemmas.List.{get_or-map}
+use Rattle.bb_assemble.proofs.NamedBits.{one_name}
+use Rattle.bb_assemble.proofs.KeptLaws.{has_filter, is_net, counted}
 use Rattle.bb_assemble.proofs.KeptNets.{all_images, all_filtered, at_place, has_placed, IsFineWork, IsKept, few_drivers, some_driver, parts_counted, driven_kept, outputs_kept, reads_kept}
-
--- the nets that a renamed netlist drives and reads ---------------------------
-
-driven_renamed : {X Y : Type 0} (f : X → Y) (n : Netlist X) → driven (renamed f n) ≡ map f (driven n)
-driven_renamed {X} {Y} f n =
-    (λ i. map f n.inputs ++ ((map_twice (λ (g : Gate Y). g.out) (renamed_gate f) n.gates ∙ sym (map_twice f (λ (g : Gate X). g.out) n.gates)) i
-    ++ (map_twice (λ (p : Flop Y). p.q) (renamed_flop f) n.flops ∙ sym (map_twice f (λ (p : Flop X). p.q) n.flops)) i))
-    ∙ ap (λ ys. map f n.inputs ++ ys) (sym (map_join f (map (λ (g : Gate X). g.out) n.gates) (map (λ (p : Flop X). p.q) n.flops)))
-    ∙ sym (map_join f n.inputs (map (λ (g : Gate X). g.out) n.gates ++ map (λ (p : Flop X). p.q) n.flops))
-
-ins_renamed : {X Y : Type 0} (f : X → Y) (gates : List (Gate X)) → flat_map (λ (g : Gate Y). g.ins) (map (renamed_gate f) gates) ≡ map f (flat_map (λ (g : Gate X). g.ins) gates)
-ins_renamed f [] = refl
-ins_renamed {X} {Y} f (g ∷ gates) = ap (λ ys. map f g.ins ++ ys) (ins_renamed f gates) ∙ sym (map_join f g.ins (flat_map (λ (k : Gate X). k.ins) gates))
-
-reads_renamed : {X Y : Type 0} (f : X → Y) (n : Netlist X) → reads (renamed f n) ≡ map f (reads n)
-reads_renamed {X} {Y} f n =
-    (λ i. map f n.outputs ++ (ins_renamed f n.gates i ++ (map_twice (λ (p : Flop Y). p.d) (renamed_flop f) n.flops ∙ sym (map_twice f (λ (p : Flop X). p.d) n.flops)) i))
-    ∙ ap (λ ys. map f n.outputs ++ ys) (sym (map_join f (flat_map (λ (g : Gate X). g.ins) n.gates) (map (λ (p : Flop X). p.d) n.flops)))
-    ∙ sym (map_join f n.outputs (flat_map (λ (g : Gate X). g.ins) n.gates ++ map (λ (p : Flop X). p.d) n.flops))
 
 -- how often bits stand ---------------------------------------------------------
 
-times_by : (b : ℕ) (xs : List ℕ) → times b xs ≡ count_by (nat_eq b) xs
+pub times_by : (b : ℕ) (xs : List ℕ) → times b xs ≡ count_by (nat_eq b) xs
 times_by b xs = ap (λ p. count_by p xs) (λ i m. same m i)
   where
     same : (m : ℕ) → (m == b) ≡ nat_eq b m
@@ -311,3 +297,12 @@ module _ (vars : List Entry) (w : Work) (fine : IsFineWork vars w) where
   -- the bit of a number
   pub bit_placed : (b : ℕ) → IsKept vars w b → HasPlace K b
   bit_placed b h = has_place K b h
+
+  -- no two names of kept bits are alike
+  pub names_alike : (names : List BitName) → names ≡ map (bit_name 0 vars) K → AllPairs (λ a b. a ≢ b) names
+  names_alike names same i j d less within =
+      let long : length names ≡ length K = ap length same ∙ length_map (bit_name 0 vars) K in
+      let small : j < length K = omega (arith, within, long) in
+      let first : get_or names i d ≡ bit_name 0 vars (get_or K i 0) = ap (λ ns. get_or ns i d) same ∙ get_or-map (bit_name 0 vars) K i 0 d (omega (arith, less, small)) in
+      let second : get_or names j d ≡ bit_name 0 vars (get_or K j 0) = ap (λ ns. get_or ns j d) same ∙ get_or-map (bit_name 0 vars) K j 0 d small in
+      λ alike. distinct_apart K kept_distinct i j 0 less small (one_name vars (get_or K i 0) (get_or K j 0) (sym first ∙ alike ∙ second))

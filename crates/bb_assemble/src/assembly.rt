@@ -1,17 +1,17 @@
 //! The named netlist of what items make.
 //!
 //! Variables go into a builder in their order, each with the nets of its kept bits, so that a net's number is the place of its bit
-//! among the kept ones. All that a kept gate or a flip-flop reads or drives is kept, and arities hold. That a builder has room, and
-//! refuses no name and no driver, is not shown here: such a refusal would be answered as want of memory, the one answer that says
-//! nothing of the netlist.
+//! among the kept ones. All that a kept gate or a flip-flop reads or drives is kept, and arities hold. The builder refuses nothing: no
+//! two variables have one name, there are no more nets than bits and no more gates than those, and each net has one driver. So what is
+//! left of its faults is want of memory.
 
-ghost use Rattle.std.specs.Prelude.{◌≡◌, ◌<◌, ◌≤◌, ◌+◌, ◌-◌, ◌^◌, ◌∷◌, [], IfOk, IfSome, OnOk, Some, None, ℕ, All, true, not, map, filter, length, slice_get};
+ghost use Rattle.std.specs.Prelude.{◌≡◌, ◌<◌, ◌≤◌, ◌+◌, ◌-◌, ◌^◌, ◌∷◌, [], IfOk, OnOk, Some, None, ℕ, All, true, not, map, filter, length, slice_get};
 ghost use Rattle.std.specs.Option.{ForSome};
 ghost use Rattle.bb_base.specs.Variables.{IsEntry, IsRange, IsBit, is_port, is_input, range_width, bit_at, bit_count};
 ghost use Rattle.bb_netlist.specs.Net.{renamed_gate, HasArity};
-ghost use Rattle.bb_net.specs.Named.{IsNamed};
-ghost use Rattle.bb_net.specs.Building.{MayClock, port_bits, with_gates, with_flops};
-ghost use Rattle.bb_drive.specs.Nets.{nets, driver_fault};
+ghost use Rattle.bb_net.specs.Named.{IsNamed, lookup_of};
+ghost use Rattle.bb_net.specs.Building.{net_limit, MayClock, port_bits, with_gates, with_flops};
+ghost use Rattle.bb_drive.specs.Nets.{nets, driver_fault, has_bit, input_bits};
 ghost use Rattle.bb_drive.specs.Clock.{clock_of, clock_fault, is_data};
 ghost use Rattle.bb_assemble.specs.NamedOf.{named_of};
 ghost use Rattle.bb_drive.specs.Within.{IsWithin, IsGateWithin, IsFlopWithin};
@@ -19,9 +19,8 @@ ghost use Rattle.bb_assemble.specs.Assembling.{ArePortsFirst, number_for, is_kep
 ghost use Rattle.bb_drive.specs.Origins.{is_marked};
 
 use crate::numbers::{nets_of, numbers_of};
-use bb_base::{Name, Role, Variable};
+use bb_base::{Name, Role, Variable, width_of};
 use bb_drive::{Clock, Clocked, Work};
-use bb_fault::range_width;
 use bb_net::{Builder, Named};
 use bb_netlist::{Gate, NetFault, NetId};
 use indexmap::IndexMap;
@@ -45,17 +44,11 @@ fn place_in(clock: Option<u32>, first: u32, width: u32) -> Option<u32>
     }
 }
 
-/// Whether a variable of this role may have the clock's bit, where it has it at a place.
-fn may_clock(role: Role, place: Option<u32>) -> bool
-    ensures { result ≡ true → (p : ℕ) → place ≡ Some p → is_input role ≡ true }
+/// Want of memory, where a builder's fault is that.
+fn only_memory(fault: NetFault) -> AllocError
+    requires { fault ≡ NetFault.NoMemory }
 {
-    match place {
-        None => true,
-        Some(_) => match role {
-            Role::Input => true,
-            Role::Output | Role::Wire => false,
-        },
-    }
+    AllocError
 }
 
 /// Adds the nets of those bits of a variable that are kept.
@@ -69,13 +62,16 @@ fn add_places(
     requires no_clock { ForSome builder.old.clock (λ c. c.variable < extent.number) }
     requires before { All (λ bit. bit.variable < extent.number) builder.old.names }
     requires within { extent.first + extent.width ≤ length numbers.now }
+    requires names { length builder.old.names ≤ extent.first }
+    requires room { length numbers.now ≤ net_limit }
     ensures { OnOk result (builder.new ≡ with_names builder.old (kept_bits (is_kept numbers.now count) extent.number extent.first extent.width)) }
 {
     for place in 0..extent.width {
         if numbers[extent.first as usize + place as usize] < count {
             match builder.net(extent.number, place) {
                 Ok(_) => {}
-                Err(_) => return Err(AllocError),
+                // There are no more nets than bits so far.
+                Err(fault) => return Err(only_memory(fault)),
             }
         }
     }
@@ -93,12 +89,15 @@ fn declare(
     requires ports_first { is_port variable.role ≡ true → All (λ v. is_port v.1.role ≡ true) builder.old.variables }
     requires few { length builder.old.variables < 2 ^ 32 - 1 }
     requires clock { ForSome place (MayClock builder.old variable) }
+    requires fresh { lookup_of name builder.old ≡ None }
+    requires room { length builder.old.names + length (port_bits (length builder.old.variables) variable place) ≤ net_limit }
     ensures added { OnOk result (Adds builder.old builder.new (name, variable) place (port_bits (length builder.old.variables) variable place)) }
     ensures number { IfOk result (λ number. number ≡ length builder.old.variables) }
 {
     match builder.variable(name, variable.range, variable.role, place) {
         Ok(number) => Ok(number),
-        Err(_) => Err(AllocError),
+        // The name is new, and there is room for the nets.
+        Err(fault) => Err(only_memory(fault)),
     }
 }
 
@@ -117,29 +116,23 @@ fn add_variable(
     requires width { extent.width ≡ range_width variable.range }
     requires range { IsRange variable.range }
     requires ports_first { is_port variable.role ≡ true → All (λ v. is_port v.1.role ≡ true) builder.old.variables }
+    requires fresh { lookup_of name builder.old ≡ None }
     requires clock { (p : ℕ) → place ≡ Some p → (p < extent.width) × (builder.old.clock ≡ None) }
+    requires input { (p : ℕ) → place ≡ Some p → is_input variable.role ≡ true }
     requires clock_before { ForSome builder.old.clock (λ c. c.variable < extent.number) }
     requires before { All (λ bit. bit.variable < extent.number) builder.old.names }
     requires within { extent.first + extent.width ≤ length numbers.now }
+    requires names { length builder.old.names ≤ extent.first }
+    requires room { length numbers.now ≤ net_limit }
     requires port { is_port variable.role ≡ true → (p : ℕ) → p < extent.width → is_kept numbers.now count (extent.first + p) ≡ not (is_clock_bit place p) }
     ensures { OnOk result (Adds builder.old builder.new (name, variable) place (kept_bits (is_kept numbers.now count) extent.number extent.first extent.width)) }
 {
-    if !may_clock(variable.role, place) {
-        return Err(AllocError);
-    }
     declare(builder, name, variable, place)?;
     match variable.role {
         // A port has nets for all of its bits but the clock's at once.
         Role::Input | Role::Output => Ok(()),
         Role::Wire => add_places(builder, extent, numbers, count),
     }
-}
-
-/// Want of memory, where a builder's fault is that.
-fn only_memory(fault: NetFault) -> AllocError
-    requires { fault ≡ NetFault.NoMemory }
-{
-    AllocError
 }
 
 /// Adds a gate over numbers of nets.
@@ -177,15 +170,13 @@ fn add_gates(
 ) -> Result<(), AllocError>
     requires names { count ≡ length builder.old.names }
     requires none { builder.old.netlist.gates ≡ [] }
+    requires few { length gates.now < 2 ^ 32 - 1 }
     requires within { All (IsGateWithin (length numbers.now)) gates.now }
     requires flags { length numbers.now ≤ length flags.now }
     requires nets { All (HasNetsWhereFlagged numbers.now count flags.now) gates.now }
     requires arities { All HasArity gates.now }
     ensures { OnOk result (builder.new ≡ with_gates builder.old (map (renamed_gate (number_for numbers.now)) (filter (λ g. is_marked flags.now g.out) gates.now))) }
 {
-    if gates.len() >= u32::MAX as usize {
-        return Err(AllocError);
-    }
     for gate in gates {
         if flags[gate.out.0 as usize] {
             add_gate(alloc, builder, gate, numbers, count)?;
@@ -203,32 +194,17 @@ fn add_flops(
 ) -> Result<(), AllocError>
     requires names { count ≡ length builder.old.names }
     requires none { builder.old.netlist.flops ≡ [] }
+    requires few { length flops.now < 2 ^ 32 - 1 }
     requires within { All (IsFlopWithin (length numbers.now)) flops.now }
     requires nets { All (HasBothNets numbers.now count) flops.now }
     ensures { OnOk result (builder.new ≡ with_flops builder.old (map (numbered_flop (number_for numbers.now)) flops.now)) }
 {
-    if flops.len() >= u32::MAX as usize {
-        return Err(AllocError);
-    }
     for flop in flops {
         let q = numbers[flop.q.0 as usize];
         let d = numbers[flop.d.0 as usize];
         builder.flop(NetId(q), NetId(d))?;
     }
     Ok(())
-}
-
-/// How many bits a variable has, where those from `first` on are below `fresh`.
-fn width_within(range: Option<(u32, u32)>, first: u32, fresh: usize) -> Option<u32>
-    ensures width { IfSome result (λ width. width ≡ range_width range) }
-    ensures within { IfSome result (λ width. first + width ≤ fresh) }
-    ensures fits { IfSome result (λ width. first + width < 2 ^ 32) }
-{
-    let width = range_width(range);
-    if width > u64::from(u32::MAX - first) || first as usize + width as usize > fresh {
-        return None;
-    }
-    Some(width as u32)
 }
 
 /// Adds the variables in their order, each with the nets of its kept bits.
@@ -245,19 +221,18 @@ fn add_variables(
     requires entries { All IsEntry vars.entries }
     requires ports_first { ArePortsFirst vars.entries }
     requires ports { KeepsPorts vars.entries (length numbers.now) clock (is_kept numbers.now count) }
+    requires total { bit_count vars.entries ≡ length numbers.now }
+    requires room { length numbers.now ≤ net_limit }
+    requires clock { (c : ℕ) → clock ≡ Some c → has_bit (input_bits vars.entries) c ≡ true }
     ensures variables { OnOk result (builder.new.variables ≡ vars.entries) }
-    ensures total { OnOk result (bit_count vars.entries ≡ length numbers.now) }
     ensures stands { OnOk result (AreAdded builder.old clock (is_kept numbers.now count) vars.entries builder.new) }
 {
+    // `len` ensures that no two names are alike.
+    let _variables = vars.len();
     let mut number: u32 = 0;
     let mut first: u32 = 0;
     for (name, variable) in vars {
-        let Some(next) = number.checked_add(1) else {
-            return Err(AllocError);
-        };
-        let Some(width) = width_within(variable.range, first, numbers.len()) else {
-            return Err(AllocError);
-        };
+        let width = width_of(variable.range);
         let place = place_in(clock, first, width);
         let extent = Extent {
             number,
@@ -265,16 +240,15 @@ fn add_variables(
             width,
         };
         add_variable(builder, name, variable, place, extent, numbers, count)?;
-        number = next;
+        number += 1;
         first += width;
-    }
-    if first as usize != numbers.len() {
-        return Err(AllocError);
     }
     Ok(())
 }
 
 /// The named netlist over these variables and this work, without the clock's nets.
+///
+/// There are no more bits than a builder makes nets.
 pub fn assemble(
     alloc: Global,
     name: Name,
@@ -292,6 +266,7 @@ pub fn assemble(
     requires entries { All IsEntry vars.entries }
     requires ports_first { ArePortsFirst vars.entries }
     requires total { bit_count vars.entries ≡ work.now.fresh }
+    requires room { work.now.fresh ≤ net_limit }
     requires arities { All HasArity work.now.gates }
     ensures named { IfOk result (λ named. named ≡ named_of name vars.entries work.now) }
     ensures valid { OnOk result (IsNamed (named_of name vars.entries work.now)) }
@@ -305,6 +280,7 @@ pub fn assemble(
     add_flops(&mut builder, &work.flops, numbers, count)?;
     match builder.finish() {
         Ok(named) => Ok(named),
-        Err(_) => Err(AllocError),
+        // Each net has exactly one driver.
+        Err(fault) => Err(only_memory(fault)),
     }
 }

@@ -261,14 +261,14 @@ two_is vars w labels clock fed h = clocks_from vars w clock (map (origin w) (clo
 
 -- data ------------------------------------------------------------------------------------
 
-fed_input : (vars : List Entry) (w : Work) (b o : ℕ) → fed_by vars w b ≡ Some o → has_bit (input_bits vars) o ≡ true
+pub fed_input : (vars : List Entry) (w : Work) (b o : ℕ) → fed_by vars w b ≡ Some o → has_bit (input_bits vars) o ≡ true
 fed_input vars w b o h = by (has_bit (input_bits vars) (origin w b)) refl h
   where
     by : (t : Bool) → has_bit (input_bits vars) (origin w b) ≡ t → cond t (Some (origin w b)) None ≡ Some o → has_bit (input_bits vars) o ≡ true
     by true e h = sym (ap (has_bit (input_bits vars)) (same_some (origin w b) o h)) ∙ e
     by false e h = absurd (no_some o h)
 
-clock_input : (vars : List Entry) (w : Work) (labels : List (Option ℕ)) (clock : ℕ) → IsWithin w → AreFed vars w labels → ArePinsFed w labels → clock_of w ≡ Some clock → has_bit (input_bits vars) clock ≡ true
+pub clock_input : (vars : List Entry) (w : Work) (labels : List (Option ℕ)) (clock : ℕ) → IsWithin w → AreFed vars w labels → ArePinsFed w labels → clock_of w ≡ Some clock → has_bit (input_bits vars) clock ≡ true
 clock_input vars w labels clock within fed pins h = by w.flops pins (recursion_from_All (IsFlopWithin w.fresh) w.flops within.flops) h
   where
     by : (flops : List Clocked) → AllByRecursion (λ (f : Clocked). entry_at labels f.clock ≡ Some (origin w f.clock)) flops → AllByRecursion (IsFlopWithin w.fresh) flops

@@ -1,4 +1,6 @@
+pub mod BitBounds
 pub mod BitNames
+pub mod ClockBits
 pub mod ClockLaws
 pub mod DriverFaults
 pub mod DriverTests
@@ -6,5 +8,6 @@ pub mod LabelLaws
 pub mod MadeNames
 pub mod MarkLaws
 pub mod OriginLaws
+pub mod Passed
 pub mod Tallied
 pub mod WayBack

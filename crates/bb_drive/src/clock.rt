@@ -2,7 +2,9 @@
 //!
 //! Once each clock pin is known to have an input bit as its origin, labels are origins, and one comparison tells the clock's nets from data.
 
-ghost use Rattle.std.specs.Prelude.{◌≡◌, ◌<◌, ◌&&◌, not, IfOk, IfErr, OnOk, Some, None, ℕ, All, length, find, slice_get};
+ghost use Rattle.std.specs.Prelude.{◌≡◌, ◌≢◌, ◌<◌, ◌&&◌, not, IfOk, IfErr, IfSome, OnOk, Some, None, ℕ, All, length, find, slice_get};
+ghost use Rattle.bb_base.specs.Variables.{bit_count};
+ghost use Rattle.bb_fault.specs.declared.fault.ElabFault.TheVariants.{NoMemory};
 ghost use Rattle.bb_drive.specs.Nets.{nets, driver_fault};
 ghost use Rattle.bb_drive.specs.Clock.{clock_of, clock_not_input, two_clocks, clock_as_data, clock_fault, is_data};
 ghost use Rattle.bb_drive.specs.Within.{IsWithin};
@@ -29,7 +31,8 @@ pub struct Clock {
 fn unfed_pin(bits: &[u32], pins: &[bool], labels: &[Option<u32>]) -> Option<u32>
     requires pins { All (λ b. b < length pins.now) bits.now }
     requires labels { All (λ b. b < length labels.now) bits.now }
-    ensures { result ≡ find (λ b. is_marked pins.now b && is_unlabelled (entry_at labels.now b)) bits.now }
+    ensures first { result ≡ find (λ b. is_marked pins.now b && is_unlabelled (entry_at labels.now b)) bits.now }
+    ensures inside { IfSome result (λ b. b < length labels.now) }
 {
     'bits: for bit in bits {
         let place = *bit as usize;
@@ -40,25 +43,27 @@ fn unfed_pin(bits: &[u32], pins: &[bool], labels: &[Option<u32>]) -> Option<u32>
     None
 }
 
-/// The fault of the first clock pin's net that no input feeds.
-fn pins_fault(
+/// Answers the fault of the first clock pin's net that no input feeds, where there is one.
+fn check_pins(
     alloc: Global,
     vars: &IndexMap<Name, Variable>,
     work: &Work,
     bits: &[u32],
     labels: &[Option<u32>],
-) -> Result<Option<ElabFault>, AllocError>
+) -> Result<(), ElabFault>
     requires nets { bits.now ≡ nets vars.now.entries work.now }
     requires within { IsWithin work.now }
+    requires total { bit_count vars.now.entries ≡ work.now.fresh }
     requires fed { AreFed vars.now.entries work.now labels.now }
-    ensures { IfOk result (λ fault. fault ≡ clock_not_input vars.now.entries work.now) }
+    ensures fine { OnOk result (clock_not_input vars.now.entries work.now ≡ None) }
+    ensures fault { IfErr result (λ fault. fault ≢ NoMemory → clock_not_input vars.now.entries work.now ≡ Some fault) }
 {
     let pins = pin_marks(alloc, work)?;
     let Some(bit) = unfed_pin(bits, &pins, labels) else {
-        return Ok(None);
+        return Ok(());
     };
     let (name, select) = bit_text(alloc, vars, bit)?;
-    Ok(Some(ElabFault::ClockNotInput { name, select }))
+    Err(ElabFault::ClockNotInput { name, select })
 }
 
 /// The label of the first flip-flop's clock pin.
@@ -87,29 +92,31 @@ fn other_label(clock: u32, labels: &[Option<u32>], flops: &[Clocked]) -> Option<
     None
 }
 
-/// The fault of the first flip-flop on another clock than the first one.
-fn clocks_fault(
+/// Answers the fault of the first flip-flop on another clock than the first one, where there is one.
+fn check_clocks(
     alloc: Global,
     vars: &IndexMap<Name, Variable>,
     work: &Work,
     labels: &[Option<u32>],
     clock: Option<u32>,
-) -> Result<Option<ElabFault>, AllocError>
+) -> Result<(), ElabFault>
     requires within { IsWithin work.now }
-    requires long { length labels.now ≡ work.now.fresh }
+    requires total { bit_count vars.now.entries ≡ work.now.fresh }
+    requires fed { AreFed vars.now.entries work.now labels.now }
     requires pins { ArePinsFed work.now labels.now }
     requires clock { clock ≡ clock_of work.now }
-    ensures { IfOk result (λ fault. fault ≡ two_clocks vars.now.entries work.now) }
+    ensures fine { OnOk result (two_clocks vars.now.entries work.now ≡ None) }
+    ensures fault { IfErr result (λ fault. fault ≢ NoMemory → two_clocks vars.now.entries work.now ≡ Some fault) }
 {
     let Some(clock) = clock else {
-        return Ok(None);
+        return Ok(());
     };
     let Some(other) = other_label(clock, labels, &work.flops) else {
-        return Ok(None);
+        return Ok(());
     };
     let first = bit_text(alloc, vars, clock)?;
     let second = bit_text(alloc, vars, other)?;
-    Ok(Some(ElabFault::TwoClocks { first, second }))
+    Err(ElabFault::TwoClocks { first, second })
 }
 
 /// Whether a bit of this label is data.
@@ -142,7 +149,8 @@ fn data_bits(
 fn misread(bits: &[u32], data_bits: &[bool], reads: &[bool]) -> Option<u32>
     requires kinds { All (λ b. b < length data_bits.now) bits.now }
     requires reads { All (λ b. b < length reads.now) bits.now }
-    ensures { result ≡ find (λ b. not (is_marked data_bits.now b) && is_marked reads.now b) bits.now }
+    ensures inside { IfSome result (λ b. b < length data_bits.now) }
+    ensures first { result ≡ find (λ b. not (is_marked data_bits.now b) && is_marked reads.now b) bits.now }
 {
     'bits: for bit in bits {
         let place = *bit as usize;
@@ -153,26 +161,28 @@ fn misread(bits: &[u32], data_bits: &[bool], reads: &[bool]) -> Option<u32>
     None
 }
 
-/// The fault of the first net of the clock that is read as data.
-fn reads_fault(
+/// Answers the fault of the first net of the clock that is read as data, where there is one.
+fn check_reads(
     alloc: Global,
     vars: &IndexMap<Name, Variable>,
     work: &Work,
     bits: &[u32],
     data_bits: &[bool],
-) -> Result<Option<ElabFault>, AllocError>
+) -> Result<(), ElabFault>
     requires nets { bits.now ≡ nets vars.now.entries work.now }
     requires within { IsWithin work.now }
+    requires total { bit_count vars.now.entries ≡ work.now.fresh }
     requires long { length data_bits.now ≡ work.now.fresh }
     requires kinds { (b : ℕ) → b < work.now.fresh → is_marked data_bits.now b ≡ is_data work.now b }
-    ensures { IfOk result (λ fault. fault ≡ clock_as_data vars.now.entries work.now) }
+    ensures fine { OnOk result (clock_as_data vars.now.entries work.now ≡ None) }
+    ensures fault { IfErr result (λ fault. fault ≢ NoMemory → clock_as_data vars.now.entries work.now ≡ Some fault) }
 {
     let reads = data_marks(alloc, vars, work)?;
     let Some(bit) = misread(bits, data_bits, &reads) else {
-        return Ok(None);
+        return Ok(());
     };
     let (name, select) = bit_text(alloc, vars, bit)?;
-    Ok(Some(ElabFault::ClockAsData { name, select }))
+    Err(ElabFault::ClockAsData { name, select })
 }
 
 /// The clock, or the first fault of clocks, from the labels of bits.
@@ -182,43 +192,41 @@ fn clock_by(
     work: &Work,
     bits: &[u32],
     labels: &[Option<u32>],
-) -> Result<Result<Clock, ElabFault>, AllocError>
+) -> Result<Clock, ElabFault>
     requires nets { bits.now ≡ nets vars.now.entries work.now }
     requires within { IsWithin work.now }
+    requires total { bit_count vars.now.entries ≡ work.now.fresh }
     requires fed { AreFed vars.now.entries work.now labels.now }
-    ensures clock { IfOk result (λ found. IfOk found (λ clock. clock.bit ≡ clock_of work.now)) }
-    ensures data { IfOk result (λ found. IfOk found (λ clock. (b : ℕ) → b < work.now.fresh → slice_get clock.data.items b ≡ Some (is_data work.now b))) }
-    ensures fine { IfOk result (λ found. OnOk found (clock_fault vars.now.entries work.now ≡ None)) }
-    ensures fault { IfOk result (λ found. IfErr found (λ fault. clock_fault vars.now.entries work.now ≡ Some fault)) }
+    ensures clock { IfOk result (λ clock. clock.bit ≡ clock_of work.now) }
+    ensures data { IfOk result (λ clock. (b : ℕ) → b < work.now.fresh → slice_get clock.data.items b ≡ Some (is_data work.now b)) }
+    ensures fine { OnOk result (clock_fault vars.now.entries work.now ≡ None) }
+    ensures fault { IfErr result (λ fault. fault ≢ NoMemory → clock_fault vars.now.entries work.now ≡ Some fault) }
 {
-    if let Some(fault) = pins_fault(alloc, vars, work, bits, labels)? {
-        return Ok(Err(fault));
-    }
+    check_pins(alloc, vars, work, bits, labels)?;
     let bit = first_label(labels, &work.flops);
-    if let Some(fault) = clocks_fault(alloc, vars, work, labels, bit)? {
-        return Ok(Err(fault));
-    }
+    check_clocks(alloc, vars, work, labels, bit)?;
     let data = data_bits(alloc, labels, bit)?;
-    if let Some(fault) = reads_fault(alloc, vars, work, bits, &data)? {
-        return Ok(Err(fault));
-    }
-    Ok(Ok(Clock { bit, data }))
+    check_reads(alloc, vars, work, bits, &data)?;
+    Ok(Clock { bit, data })
 }
 
 /// The clock of the flip-flops, or the first fault of clocks.
+///
+/// The variables have as many bits as the work has numbers, so that each of its bits has a name.
 pub fn clock_in(
     alloc: Global,
     vars: &IndexMap<Name, Variable>,
     work: &Work,
     bits: &[u32],
-) -> Result<Result<Clock, ElabFault>, AllocError>
+) -> Result<Clock, ElabFault>
     requires nets { bits.now ≡ nets vars.now.entries work.now }
     requires driven { driver_fault vars.now.entries work.now ≡ None }
     requires within { IsWithin work.now }
-    ensures clock { IfOk result (λ found. IfOk found (λ clock. clock.bit ≡ clock_of work.now)) }
-    ensures data { IfOk result (λ found. IfOk found (λ clock. (b : ℕ) → b < work.now.fresh → slice_get clock.data.items b ≡ Some (is_data work.now b))) }
-    ensures fine { IfOk result (λ found. OnOk found (clock_fault vars.now.entries work.now ≡ None)) }
-    ensures fault { IfOk result (λ found. IfErr found (λ fault. clock_fault vars.now.entries work.now ≡ Some fault)) }
+    requires total { bit_count vars.now.entries ≡ work.now.fresh }
+    ensures clock { IfOk result (λ clock. clock.bit ≡ clock_of work.now) }
+    ensures data { IfOk result (λ clock. (b : ℕ) → b < work.now.fresh → slice_get clock.data.items b ≡ Some (is_data work.now b)) }
+    ensures fine { OnOk result (clock_fault vars.now.entries work.now ≡ None) }
+    ensures fault { IfErr result (λ fault. fault ≢ NoMemory → clock_fault vars.now.entries work.now ≡ Some fault) }
 {
     let roots = input_marks(alloc, vars, work.fresh)?;
     let labels = origins_in(alloc, work, &roots)?;

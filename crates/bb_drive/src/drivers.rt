@@ -1,6 +1,6 @@
 //! How often each bit is driven or read.
 
-ghost use Rattle.std.specs.Prelude.{◌≡◌, ◌<◌, ◌^◌, ◌-◌, ◌&&◌, ◌||◌, IfOk, length, map, flat_map, find, filter, fold, nat_eq, nat_lt, slice_index};
+ghost use Rattle.std.specs.Prelude.{◌≡◌, ◌<◌, ◌^◌, ◌-◌, ◌&&◌, ◌||◌, IfOk, IfSome, length, map, flat_map, find, filter, fold, nat_eq, nat_lt, slice_index};
 ghost use Rattle.std.specs.List.{range_with_len};
 ghost use Rattle.bb_drive.specs.Nets.{bits_driven, bits_read, bits_from};
 ghost use Rattle.bb_drive.specs.Tallies.{tally, tallies, is_role};
@@ -149,7 +149,8 @@ pub(crate) fn readers(
 /// The first bit that is driven twice.
 pub(crate) fn first_twice(drivers: &[u8]) -> Option<u32>
     requires { length drivers.now < 2 ^ 32 }
-    ensures { result ≡ find (λ m. nat_lt 1 (slice_index drivers.now m)) (range_with_len 0 (length drivers.now)) }
+    ensures inside { IfSome result (λ bit. bit < length drivers.now) }
+    ensures first { result ≡ find (λ m. nat_lt 1 (slice_index drivers.now m)) (range_with_len 0 (length drivers.now)) }
 {
     for bit in 0..drivers.len() {
         if drivers[bit] > 1 {
@@ -163,7 +164,8 @@ pub(crate) fn first_twice(drivers: &[u8]) -> Option<u32>
 pub(crate) fn first_undriven(drivers: &[u8], readers: &[u8]) -> Option<u32>
     requires few { length drivers.now < 2 ^ 32 }
     requires same { length readers.now ≡ length drivers.now }
-    ensures { result ≡ find (λ m. nat_eq (slice_index drivers.now m) 0 && nat_lt 0 (slice_index readers.now m)) (range_with_len 0 (length drivers.now)) }
+    ensures inside { IfSome result (λ bit. bit < length drivers.now) }
+    ensures first { result ≡ find (λ m. nat_eq (slice_index drivers.now m) 0 && nat_lt 0 (slice_index readers.now m)) (range_with_len 0 (length drivers.now)) }
 {
     for bit in 0..drivers.len() {
         if drivers[bit] == 0 && readers[bit] > 0 {

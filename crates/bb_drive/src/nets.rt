@@ -1,9 +1,10 @@
 //! All variables, which of their bits are nets, and the faults of drivers.
 
-ghost use Rattle.std.specs.Prelude.{◌≡◌, ◌<◌, ◌++◌, ◌∷◌, [], IfOk, IfErr, OnOk, Some, None, map, not, if◌then◌else◌};
+ghost use Rattle.std.specs.Prelude.{◌≡◌, ◌≢◌, ◌<◌, ◌++◌, ◌∷◌, [], IfOk, IfErr, OnOk, Some, None, map, not, if◌then◌else◌};
 ghost use Rattle.std.specs.Option.{option_map};
-ghost use Rattle.bb_base.specs.Variables.{range_width, index_at};
+ghost use Rattle.bb_base.specs.Variables.{range_width, index_at, bit_count};
 ghost use Rattle.bb_base.specs.OwnNames.{made_name};
+ghost use Rattle.bb_fault.specs.declared.fault.ElabFault.TheVariants.{NoMemory};
 ghost use Rattle.bb_drive.specs.Nets.{made_names, made_count, made_variable, is_variable, all_variables, nets, bit_text, driver_fault};
 
 use crate::drivers::{drivers, first_twice, first_undriven, readers, used_bits};
@@ -92,12 +93,13 @@ pub fn index_of(range: Option<(u32, u32)>, place: u32) -> Option<u32>
     }
 }
 
-/// How texts name the bit of this number. A number beyond all bits has no name, and is answered as if memory ran out.
+/// How texts name the bit of this number.
 pub(crate) fn bit_text(
     alloc: Global,
     vars: &IndexMap<Name, Variable>,
     bit: u32,
 ) -> Result<(Name, Option<u32>), AllocError>
+    requires { bit < bit_count vars.now.entries }
     ensures { IfOk result (λ text. text ≡ ((bit_text vars.now.entries bit).name, (bit_text vars.now.entries bit).index)) }
 {
     let mut place = bit as u64;
@@ -109,28 +111,32 @@ pub(crate) fn bit_text(
         }
         place -= width;
     }
-    Err(AllocError)
+    // One of the variables has the bit.
+    unreachable!()
 }
 
 /// The bits that are nets, ascending, where each has exactly one driver, or the first that hasn't.
+///
+/// The variables have as many bits as the work has numbers, so that each of its bits has a name.
 pub fn driven_nets(
     alloc: Global,
     vars: &IndexMap<Name, Variable>,
     work: &Work,
-) -> Result<Result<Vec<u32>, ElabFault>, AllocError>
-    ensures nets { IfOk result (λ found. IfOk found (λ bits. bits.items ≡ nets vars.now.entries work.now)) }
-    ensures fine { IfOk result (λ found. OnOk found (driver_fault vars.now.entries work.now ≡ None)) }
-    ensures fault { IfOk result (λ found. IfErr found (λ fault. driver_fault vars.now.entries work.now ≡ Some fault)) }
+) -> Result<Vec<u32>, ElabFault>
+    requires { bit_count vars.now.entries ≡ work.now.fresh }
+    ensures nets { IfOk result (λ bits. bits.items ≡ nets vars.now.entries work.now) }
+    ensures fine { OnOk result (driver_fault vars.now.entries work.now ≡ None) }
+    ensures fault { IfErr result (λ fault. fault ≢ NoMemory → driver_fault vars.now.entries work.now ≡ Some fault) }
 {
     let drivers = drivers(alloc, vars, work)?;
     let readers = readers(alloc, vars, work)?;
     if let Some(bit) = first_twice(&drivers) {
         let (name, select) = bit_text(alloc, vars, bit)?;
-        return Ok(Err(ElabFault::TwoDrivers { name, select }));
+        return Err(ElabFault::TwoDrivers { name, select });
     }
     if let Some(bit) = first_undriven(&drivers, &readers) {
         let (name, select) = bit_text(alloc, vars, bit)?;
-        return Ok(Err(ElabFault::Undriven { name, select }));
+        return Err(ElabFault::Undriven { name, select });
     }
-    Ok(Ok(used_bits(alloc, &drivers, &readers)?))
+    Ok(used_bits(alloc, &drivers, &readers)?)
 }

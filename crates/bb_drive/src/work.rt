@@ -1,6 +1,6 @@
 //! The gates and flip-flops that items make.
 
-ghost use Rattle.std.specs.Prelude.{◌≡◌, IfOk, OnOk};
+ghost use Rattle.std.specs.Prelude.{◌≡◌, ◌<◌, ◌^◌, IfOk, OnOk};
 ghost use Rattle.bb_drive.specs.Work.{new_net, drive, make, make_onto, flop_made, constant, Makes};
 
 use bb_base::Op;
@@ -52,16 +52,14 @@ pub fn constant(one: bool) -> Op
 }
 
 impl Work {
-    /// A net without a driver yet. (Numbers run out long after the limit on bits.)
-    pub fn new_net(&mut self) -> Result<NetId, AllocError>
-        ensures { IfOk result (λ net. Makes new_net self.old net self.new) }
+    /// A net without a driver yet.
+    pub fn new_net(&mut self) -> NetId
+        requires room { (new_net self.old).1.fresh < 2 ^ 32 }
+        ensures { Makes new_net self.old result self.new }
     {
         let net = self.fresh;
-        let Some(next) = self.fresh.checked_add(1) else {
-            return Err(AllocError);
-        };
-        self.fresh = next;
-        Ok(NetId(net))
+        self.fresh += 1;
+        NetId(net)
     }
 
     /// A gate that drives this net.
@@ -75,9 +73,10 @@ impl Work {
 
     /// A gate that drives a new net.
     pub fn make(&mut self, op: Op, ins: &[NetId]) -> Result<NetId, AllocError>
+        requires room { (make op ins.now self.old).1.fresh < 2 ^ 32 }
         ensures { IfOk result (λ net. Makes (make op ins.now) self.old net self.new) }
     {
-        let out = self.new_net()?;
+        let out = self.new_net();
         self.drive(op, ins, out)
     }
 
@@ -88,6 +87,7 @@ impl Work {
         ins: &[NetId],
         target: Option<NetId>,
     ) -> Result<NetId, AllocError>
+        requires room { (make_onto op ins.now target self.old).1.fresh < 2 ^ 32 }
         ensures { IfOk result (λ net. Makes (make_onto op ins.now target) self.old net self.new) }
     {
         match target {

@@ -35,12 +35,12 @@ use Rattle.bb_drive.specs.Work.{Work, drive, make, make_onto, constant}
 use Rattle.bb_gates.specs.declared.value.Bit.{Bit}
 use Rattle.bb_gates.specs.declared.value.Bit.TheVariants.{Net, Fixed}
 use Rattle.bb_gates.specs.Making.{Outs, New, To, first_out, other_outs, grounded, each_alone, each_pair, each_choice, inverted, joined_by, choice_between, last_value, step_made, steps_made, terminal_made, terminals_made, copied_onto, makes_gates, assigned, driven_bits, all_driven, prim_made, Read, pins_made, nets_of, out_of, out_net, all_nets, body_made, kind_made, cell_made, item_made, items_made}
-use Rattle.bb_elab.specs.ValueSizes.{value_size, value_sizes}
+use Rattle.bb_meaning.specs.ValueSizes.{value_size, value_sizes}
 use Rattle.bb_elab.specs.Outcome.{work_in}
-use Rattle.bb_elab.proofs.Operators.{width_is, grounded-length}
-use Rattle.bb_elab.proofs.Expressions.{counted}
-use Rattle.bb_elab.proofs.Assigns.{agreed, right-terms}
-use Rattle.bb_elab.proofs.Instances.{terminal-length, takes, IsRow, all_rows, row_of, OneEach, one-each, placed-fault, placed-all, some-place, right-conns, fine-conns}
+use Rattle.bb_meaning.proofs.Operators.{width_is, grounded-length}
+use Rattle.bb_meaning.proofs.Expressions.{counted}
+use Rattle.bb_meaning.proofs.Assigns.{agreed, right-terms}
+use Rattle.bb_meaning.proofs.Instances.{terminal-length, takes, IsRow, all_rows, row_of, OneEach, one-each, placed-fault, placed-all, some-place, right-conns, fine-conns}
 
 -- the gates that were made have arities that hold
 abbrev pub Fits : Work → Type 0

@@ -1,12 +1,9 @@
-pub mod Assigns
-pub mod Counting
-pub mod Expressions
-pub mod Instances
+pub mod CountedFault
 pub mod LoopLaws
-pub mod Operators
 pub mod PortLaws
 pub mod Rows
 pub mod WithinLaws
 pub mod NameLaws
 pub mod Arities
 pub mod DenotedLaws
+pub mod NetlistBits

@@ -3,7 +3,6 @@ use Rattle.std.proofs.Common.{arith, ◌≡◌, ◌⊎◌, inl, inr, ℕ, ◌<�
 use Rattle.std.proofs.lemmas.Option.{slice_get-get_or, slice_get_within}
 use Rattle.std.proofs.lemmas.List.{get_or-map}
 use Rattle.std.specs.Prelude.{Option, None, Result, Ok, Err}
-use Rattle.std.specs.Option.{option_or}
 use Rattle.bb_netlist.specs.Net.{Gate, Netlist}
 use Rattle.bb_base.specs.Variables.{bit_of}
 use Rattle.bb_net.specs.Named.{Named, IsNamed}
@@ -21,6 +20,7 @@ use Rattle.bb_assemble.specs.NamedOf.{kept}
 use Rattle.bb_runs.proofs.Loops.{one_loop_of, cycle_within, driven_once}
 use Rattle.bb_runs.proofs.Walks.{order_or_loop_of}
 use Rattle.bb_parse.specs.Sound.{IsSoundModule}
+use Rattle.bb_elab.proofs.CountedFault.{nets_first}
 use Rattle.bb_elab.proofs.DenotedLaws.{driven-once, nets_counted, denoted-fits}
 
 -- outcomes --------------------------------------------------------------
@@ -104,7 +104,7 @@ first_within n l (x ∷ more) net is e c at =
 pub refused :
     (own : Bool) (m : Module) (n : Named) (fault : ElabFault) → text_fault own m ≡ None → net_fault (variables_in m) (work_in m) ≡ None → n ≡ denoted m → IsLoopIn n fault → IsOutcome own m (Err fault)
 refused own m n fault text nets e l =
-    let first : first_fault own m ≡ None = ap (λ o. option_or o (net_fault (variables_in m) (work_in m))) text ∙ nets in
+    let first : first_fault own m ≡ None = nets_first own m None text nets in
     inr (first, loop_named own m n fault first e l)
 
 -- each module of a text has an outcome ------------------------------------

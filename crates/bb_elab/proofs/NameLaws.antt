@@ -11,6 +11,7 @@ use Rattle.bb_base.specs.Variables.{Entry, bit_count}
 use Rattle.bb_base.specs.OwnNames.{made_name}
 use Rattle.bb_base.proofs.Lists.{all_join, length_map, map_join}
 use Rattle.bb_base.proofs.Distinct.{Distinct, distinct_map}
+use Rattle.bb_net.proofs.CountLemmas.{variables_few}
 use Rattle.bb_netlist.proofs.TimesLemmas.{times_range, once_distinct}
 use Rattle.bb_parse.specs.declared.syntax.Module.{Module}
 use Rattle.bb_parse.specs.declared.syntax.Decl.{Decl}
@@ -23,8 +24,8 @@ use Rattle.bb_gates.proofs.AllItems.{all_take, all_filter}
 use Rattle.bb_assemble.proofs.NamedBits.{bit_count_join}
 use Rattle.bb_assemble.proofs.NumberedNets.{distinct_apart}
 use Rattle.bb_elab.specs.Outcome.{work_in, variables_in}
-use Rattle.bb_elab.proofs.Counting.{module-fresh}
-use Rattle.bb_elab.proofs.PortLaws.{IsFine, variables_few}
+use Rattle.bb_meaning.proofs.Counting.{module-fresh}
+use Rattle.bb_elab.proofs.PortLaws.{IsFine}
 
 -- lists without repetitions --------------------------------------------------
 

@@ -8,7 +8,7 @@ use Rattle.std.specs.Prelude.{Option, Some, None, find, flat_map, filter}
 use Rattle.std.specs.Option.{option_or, option_map}
 use Rattle.std.specs.List.{AllByRecursion, range_with_len}
 use Rattle.std.specs.Str.{bytes_eq}
-use Rattle.bb_base.specs.Variables.{Entry, IsEntry, IsRange, is_port, range_width, bit_count}
+use Rattle.bb_base.specs.Variables.{Entry, IsEntry, IsRange, is_port}
 use Rattle.bb_base.specs.declared.variable.Role.TheVariants.{Wire}
 use Rattle.bb_base.specs.Name.{IsName}
 use Rattle.bb_base.proofs.Lists.{all_join, all_map_back, map_join, get_front, get_back}
@@ -36,12 +36,13 @@ use Rattle.bb_drive.specs.Nets.{made_count, is_variable, made_names, made_variab
 use Rattle.bb_base.specs.OwnNames.{made_name}
 use Rattle.bb_assemble.specs.Assembling.{ArePortsFirst}
 use Rattle.bb_elab.specs.Outcome.{variables_in, work_in}
-use Rattle.bb_elab.proofs.Counting.{module-fresh}
-use Rattle.bb_fault.proofs.Keys.{same_name, name_itself}
+use Rattle.bb_meaning.proofs.Counting.{module-fresh}
+use Rattle.bb_meaning.proofs.Mentioned.{all_added}
+use Rattle.bb_fault.proofs.Keys.{same_name}
 use Rattle.bb_gates.proofs.AllItems.{at_item, all_flat, all_take, all_filter, all_range}
 use Rattle.bb_fault.proofs.Parted.{none-first, none-second}
-use Rattle.bb_base.proofs.BooleanLemmas.{or_true}
 use Rattle.bb_base.proofs.OwnNameLemmas.{made_is_name}
+use Rattle.bb_net.proofs.CountLemmas.{variables_few}
 
 -- names -----------------------------------------------------------------
 
@@ -159,15 +160,6 @@ fine_text own m h =
       bits = few own (all_bits m) (none-second (bad_part m) (too_many_nets own m) counted);
     }
 
--- each variable has a bit at least
-width_some : (range : Option (ℕ × ℕ)) → 1 ≤ range_width range
-width_some None = omega arith
-width_some (Some r) = omega arith
-
-pub variables_few : (table : List Entry) → length table ≤ bit_count table
-variables_few [] = omega arith
-variables_few (v ∷ table) = omega (arith, width_some v.1.range, variables_few table)
-
 -- the entries of made variables
 made_sound : (table : List Entry) (count : ℕ) → count + length table < 2 ^ 64 → AllByRecursion IsEntry (map made_variable (made_names table count))
 made_sound table count small =
@@ -219,36 +211,6 @@ in_header header (d ∷ decls) name none some = go (is_direction d) (bytes_eq na
     go true false e true k none some rest = rest none some
     go true false e false k none some rest = absurd (cc none)
     go false b e h k none some rest = rest none some
-
--- a name that stands still stands, and one that is added does
-with_kept : (names : List (List ℕ)) (m name : List ℕ) → has_name names name ≡ true → has_name (with_new_name names m) name ≡ true
-with_kept names m name h = go (has_name names m)
-  where
-    go : (b : Bool) → has_name (cond b names (names ++ m ∷ [])) name ≡ true
-    go true = h
-    go false = list_any-append (bytes_eq name) names (m ∷ []) ∙ ap (λ b. b || has_name (m ∷ []) name) h
-
--- a name that is added stands
-with_added : (names : List (List ℕ)) (m : List ℕ) → has_name (with_new_name names m) m ≡ true
-with_added names m = go (has_name names m) refl
-  where
-    go : (b : Bool) → has_name names m ≡ b → has_name (cond b names (names ++ m ∷ [])) m ≡ true
-    go true e = e
-    go false e = list_any-append (bytes_eq m) names (m ∷ []) ∙ (ap (λ b. has_name names m || (b || false)) (name_itself m) ∙ or_true (has_name names m))
-
--- the same for names that are added in turn
-all_kept : (names more : List (List ℕ)) (name : List ℕ) → has_name names name ≡ true → has_name (fold with_new_name names more) name ≡ true
-all_kept names [] name h = h
-all_kept names (m ∷ more) name h = all_kept (with_new_name names m) more name (with_kept names m name h)
-
-pub all_added : (names more : List (List ℕ)) (name : List ℕ) → has_name more name ≡ true → has_name (fold with_new_name names more) name ≡ true
-all_added names [] name h = absurd (cc h)
-all_added names (m ∷ more) name h = go (bytes_eq name m) refl h (all_added (with_new_name names m) more name)
-  where
-    go : (b : Bool) → bytes_eq name m ≡ b → (b || has_name more name) ≡ true → (has_name more name ≡ true → has_name (fold with_new_name (with_new_name names m) more) name ≡ true)
-        → has_name (fold with_new_name (with_new_name names m) more) name ≡ true
-    go true e h rest = all_kept (with_new_name names m) more name (subst (λ n. has_name (with_new_name names m) n ≡ true) (sym (same_name name m e)) (with_added names m))
-    go false e h rest = rest h
 
 -- the names behind others are new
 record Behind (names more : List (List ℕ)) : Type 0 where

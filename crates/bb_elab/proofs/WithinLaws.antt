@@ -1,7 +1,7 @@
 -- Every bit of a gate or flip-flop that items make is one that stands.
-use Rattle.std.proofs.Common.{arith, ◌≡◌, ℕ, ◌<◌, ◌≤◌, Bool, true, false, ◌||◌, cond, List, [], ◌∷◌, ◌++◌, map, refl, ap, ◌∙◌, subst, append_assoc}
+use Rattle.std.proofs.Common.{arith, ℕ, ◌<◌, ◌≤◌, Bool, true, false, cond, List, [], ◌∷◌, ◌++◌, map}
 use Rattle.std.proofs.lemmas.List.Elements.{All-from_recursion}
-use Rattle.std.specs.Prelude.{Option, Some, None, flat_map, zip}
+use Rattle.std.specs.Prelude.{Option, Some, None, flat_map}
 use Rattle.std.specs.List.{AllByRecursion}
 use Rattle.std.specs.Str.{bytes_eq}
 use Rattle.bb_base.specs.declared.operator.Op.{Op}
@@ -9,37 +9,27 @@ use Rattle.bb_base.specs.declared.operator.Op.TheVariants.{Not}
 use Rattle.bb_base.specs.Variables.{Entry, bit_count}
 use Rattle.bb_base.proofs.Lists.{all_front, all_back, all_join, all_map, all_parts}
 use Rattle.bb_parse.specs.declared.syntax.Module.{Module}
-use Rattle.bb_parse.specs.declared.syntax.Decl.{Decl}
 use Rattle.bb_parse.specs.declared.syntax.Item.{Item}
 use Rattle.bb_parse.specs.declared.syntax.Item.TheVariants as item
 use Rattle.bb_parse.specs.declared.syntax.Conns.{Conns}
-use Rattle.bb_parse.specs.declared.syntax.Conns.TheVariants.{Places, Pins}
 use Rattle.bb_parse.specs.declared.syntax.Ref.{Ref}
-use Rattle.bb_parse.specs.declared.syntax.Step.{Step}
 use Rattle.bb_scope.specs.declared.cells.Body.{Body}
 use Rattle.bb_scope.specs.declared.cells.Body.TheVariants.{FlipFlop, Gate, SecondInverted, Choice}
-use Rattle.bb_scope.specs.Names.{steps_names, pin_names, conns_names, item_names, header_names, mentioned, has_name, variable_names}
-use Rattle.bb_scope.specs.Declarations.{declarations}
-use Rattle.bb_scope.specs.Variables.{entry_of, variables}
+use Rattle.bb_scope.specs.Names.{steps_names, conns_names, item_names, header_names}
+use Rattle.bb_scope.specs.Variables.{variables}
 use Rattle.bb_scope.specs.Cells.{Kind, kind_of, Pin, pins_of}
-use Rattle.bb_drive.specs.Nets.{is_variable}
 use Rattle.bb_drive.specs.Within.{IsGateWithin, IsFlopWithin, IsWithin}
 use Rattle.bb_elab.specs.Outcome.{work_in}
 use Rattle.bb_drive.specs.Work.{Work, make}
 use Rattle.bb_gates.specs.Making.{Outs, To, Read, first_out, terminal_made, driven_bits, pins_made, nets_of, out_of, out_net, flip_flop_made, all_nets, gate_made, second_inverted, multiplexer_made, body_made, kind_made, cell_made, item_made, items_made}
 use Rattle.bb_scope.specs.References.{ref_bits}
-use Rattle.bb_fault.proofs.Keys.{name_itself}
-use Rattle.bb_elab.proofs.PortLaws.{all_added}
-use Rattle.bb_base.proofs.BooleanLemmas.{or_true}
+use Rattle.bb_meaning.proofs.Mentioned.{mentioned_known}
+use Rattle.bb_meaning.proofs.Pins.{IsPinKnown, pins-known}
 use Rattle.bb_gates.proofs.AllItems.{all_flat}
 use Rattle.bb_gates.proofs.WithinGates.{AreBelow, AreOutsBelow, IsBelow, IsDone, IsInside, IsOutBelow, Keeps, each-keeps, first_below, make-keeps, nets_more, new-keeps, onto-keeps, outs_more}
 use Rattle.bb_gates.proofs.WithinSteps.{AreKnown, IsKnown, assigned-keeps, driven_below, prim-keeps, ref_below, terminal-keeps}
 
 -- cells ---------------------------------------------------------------------------
-
--- the names of a pin's expression are those of variables
-abbrev IsPinKnown : List Entry → Pin → Type 0
-IsPinKnown table p = AreKnown table (pin_names p.1)
 
 -- the nets of the pins that are read stand
 abbrev IsReadBelow : ℕ → Read → Type 0
@@ -167,19 +157,9 @@ kind-keeps table kind pins w is base known =
     (outs_more (bit_count table) v.fresh (out_of table kind pins) (omega (arith, base, a.grows)) (out_below table kind pins known)) (inputs_below v.fresh read kind.ins a.value) in
     record { grows = omega (arith, a.grows, b.grows); value = tt; inside = b.inside }
 
--- pins by place, and pins of either form
-zip_known : (table : List Entry) (places : List (List ℕ)) (terms : List (List Step)) → AllByRecursion (λ e. AreKnown table (steps_names e)) terms → AllByRecursion (IsPinKnown table) (zip places (map (λ e. Some e) terms))
-zip_known table [] terms known = tt
-zip_known table (p ∷ places) [] known = tt
-zip_known table (p ∷ places) (e ∷ terms) known = (known.0, zip_known table places terms known.1)
-
-pins_known : (table : List Entry) (kind : Kind) (conns : Conns) → AreKnown table (conns_names conns) → AllByRecursion (IsPinKnown table) (pins_of kind conns)
-pins_known table kind (Places terms) known = zip_known table kind.places terms (all_parts (IsKnown table) steps_names terms known)
-pins_known table kind (Pins pins) known = all_parts (IsKnown table) (λ p. pin_names p.1) pins known
-
 cell-keeps : (table : List Entry) (kind : Option Kind) (conns : Conns) (w : Work) → IsInside w → bit_count table ≤ w.fresh → AreKnown table (conns_names conns) → Keeps IsDone w (cell_made table kind conns w)
 cell-keeps table None conns w is base known = nothing [] w is
-cell-keeps table (Some kind) conns w is base known = kind-keeps table kind (pins_of kind conns) w is base (pins_known table kind conns known)
+cell-keeps table (Some kind) conns w is base known = kind-keeps table kind (pins_of kind conns) w is base (pins-known table kind conns known)
 
 -- items ---------------------------------------------------------------------------
 
@@ -199,27 +179,6 @@ items-keep table [] w is base known = is
 items-keep table (i ∷ items) w is base known =
     let a = item-keeps table i w is base (all_front (IsKnown table) (item_names i) (flat_map item_names items) known) in
     items-keep table items (item_made table i w).1 a.inside (omega (arith, base, a.grows)) (all_back (IsKnown table) (item_names i) (flat_map item_names items) known)
-
--- each name that a module mentions is that of a variable
-named_entry : (decls : List Decl) (names : List (List ℕ)) (name : List ℕ) → is_variable (map (entry_of decls) names) name ≡ has_name names name
-named_entry decls [] name = refl
-named_entry decls (n ∷ names) name = ap (λ b. bytes_eq name n || b) (named_entry decls names name)
-
--- a list has its own items
-among : (front : List (List ℕ)) (name : List ℕ) (back : List (List ℕ)) → has_name (front ++ name ∷ back) name ≡ true
-among [] name back = ap (λ b. b || has_name back name) (name_itself name)
-among (f ∷ front) name back = ap (λ b. bytes_eq name f || b) (among front name back) ∙ or_true (bytes_eq name f)
-
-all_among : (front names : List (List ℕ)) → AllByRecursion (λ n. has_name (front ++ names) n ≡ true) names
-all_among front [] = tt
-all_among front (n ∷ names) = (among front n names, subst (λ all. AllByRecursion (λ m. has_name all m ≡ true) names) (append_assoc front (n ∷ []) names) (all_among (front ++ n ∷ []) names))
-
-mentioned_known : (m : Module) → AreKnown (variables m) (mentioned m)
-mentioned_known m = by (mentioned m) (all_among [] (mentioned m))
-  where
-    by : (names : List (List ℕ)) → AllByRecursion (λ n. has_name (mentioned m) n ≡ true) names → AreKnown (variables m) names
-    by [] all = tt
-    by (n ∷ names) all = (named_entry (declarations m) (variable_names m) n ∙ all_added [] (mentioned m) n all.0, by names all.1)
 
 -- the work of a module is within its bits
 pub work_within : (m : Module) → IsWithin (work_in m)

@@ -1,4 +1,3 @@
 pub mod Outcome
 pub mod LoopNames
-pub mod ValueSizes
 pub mod Denotes

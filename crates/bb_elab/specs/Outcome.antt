@@ -9,7 +9,10 @@ use Rattle.bb_fault.specs.declared.fault.ElabFault.{ElabFault}
 use Rattle.bb_fault.specs.declared.fault.ElabFault.TheVariants.{Loop}
 use Rattle.bb_fault.specs.Firsts.{on_some}
 use Rattle.bb_scope.specs.Variables.{variables}
-use Rattle.bb_width.specs.Text.{text_fault}
+use Rattle.bb_fault.specs.Limits.{too_many}
+use Rattle.bb_scope.specs.Cells.{unknown_cell}
+use Rattle.bb_width.specs.Parts.{bad_part}
+use Rattle.bb_width.specs.Text.{name_fault}
 use Rattle.bb_drive.specs.Work.{Work}
 use Rattle.bb_gates.specs.Making.{work_of}
 use Rattle.bb_drive.specs.Nets.{all_variables, bit_text, driver_fault}
@@ -28,9 +31,13 @@ variables_in m = all_variables (variables m) (work_in m)
 abbrev pub net_fault : List Entry → Work → Option ElabFault
 net_fault vars w = option_or (driver_fault vars w) (clock_fault vars w)
 
--- a module's first fault but a loop
+-- the fault of the bits of the variables and the nets that the items make, where these are more than the limit
+abbrev pub too_many_made : Bool → Module → Option ElabFault
+too_many_made own m = too_many own (work_in m).fresh
+
+-- a module's first fault but a loop: of names and declarations, of cells, of pins, selects and widths, of the number of bits and nets, and of drivers and clocks
 abbrev pub first_fault : Bool → Module → Option ElabFault
-first_fault own m = option_or (text_fault own m) (net_fault (variables_in m) (work_in m))
+first_fault own m = option_or (name_fault own m) (option_or (unknown_cell m) (option_or (bad_part m) (option_or (too_many_made own m) (net_fault (variables_in m) (work_in m)))))
 
 -- what a module without such a fault denotes
 abbrev pub denoted : Module → Named

@@ -1,8 +1,9 @@
 //! Elaboration: the netlist that a module denotes, or its first fault.
 
-ghost use Rattle.std.specs.Prelude.{◌≡◌, ◌≢◌, ◌<◌, IfOk, IfErr, OnOk, Ok, Err, None, Some, All, flat_map, length};
+ghost use Rattle.std.specs.Prelude.{◌≡◌, ◌≢◌, ◌<◌, ◌≤◌, ◌^◌, IfOk, IfErr, OnOk, Ok, Err, None, Some, All, flat_map, length};
 ghost use Rattle.bb_base.specs.Variables.{IsEntry, bit_count};
 ghost use Rattle.bb_net.specs.Named.{IsNamed, net_text};
+ghost use Rattle.bb_net.specs.Building.{net_limit};
 ghost use Rattle.bb_netlist.specs.Net.{HasArity};
 ghost use Rattle.bb_netlist.specs.Order.{IsOrder};
 ghost use Rattle.bb_parse.specs.Sound.{IsSoundModule};
@@ -66,27 +67,21 @@ fn wired(
     name: Name,
     vars: IndexMap<Name, Variable>,
     work: &Work,
-) -> Result<Result<Named, ElabFault>, AllocError>
+) -> Result<Named, ElabFault>
     requires within { IsWithin work.now }
     requires entries { All IsEntry vars.entries }
     requires ports_first { ArePortsFirst vars.entries }
     requires total { bit_count vars.entries ≡ work.now.fresh }
+    requires room { work.now.fresh ≤ net_limit }
     requires arities { All HasArity work.now.gates }
-    ensures named { IfOk result (λ found. IfOk found (λ named. named ≡ named_of name vars.entries work.now)) }
-    ensures valid { IfOk result (λ found. OnOk found (IsNamed (named_of name vars.entries work.now))) }
-    ensures fine { IfOk result (λ found. OnOk found (net_fault vars.entries work.now ≡ None)) }
-    ensures fault { IfOk result (λ found. IfErr found (λ fault. net_fault vars.entries work.now ≡ Some fault)) }
+    ensures named { IfOk result (λ named. named ≡ named_of name vars.entries work.now) }
+    ensures valid { OnOk result (IsNamed (named_of name vars.entries work.now)) }
+    ensures fine { OnOk result (net_fault vars.entries work.now ≡ None) }
+    ensures fault { IfErr result (λ fault. fault ≢ NoMemory → net_fault vars.entries work.now ≡ Some fault) }
 {
-    let bits = match driven_nets(alloc, &vars, work)? {
-        Ok(bits) => bits,
-        Err(fault) => return Ok(Err(fault)),
-    };
-    let clock = match clock_in(alloc, &vars, work, &bits)? {
-        Ok(clock) => clock,
-        Err(fault) => return Ok(Err(fault)),
-    };
-    let named = assemble(alloc, name, vars, work, &bits, &clock)?;
-    Ok(Ok(named))
+    let bits = driven_nets(alloc, &vars, work)?;
+    let clock = clock_in(alloc, &vars, work, &bits)?;
+    Ok(assemble(alloc, name, vars, work, &bits, &clock)?)
 }
 
 /// All variables of a module whose text was checked, and what its items make.
@@ -97,6 +92,7 @@ fn made_in(
 ) -> Result<(IndexMap<Name, Variable>, Work), AllocError>
     requires scope { bound.scope ≡ variables «module».now }
     requires uses { AreNext bound.scope (flat_map item_names «module».now.items) bound.uses.items }
+    requires room { (work_in «module».now).fresh < 2 ^ 32 }
     ensures vars { IfOk result (λ made. made.0.entries ≡ variables_in «module».now) }
     ensures work { IfOk result (λ made. made.1 ≡ work_in «module».now) }
 {
@@ -107,20 +103,15 @@ fn made_in(
 }
 
 /// The named netlist of a module whose text was checked, or the first fault of drivers and clocks.
-fn named_in(
-    alloc: Global,
-    own: bool,
-    module: &Module,
-    bound: Bound,
-) -> Result<Result<Named, ElabFault>, AllocError>
+fn named_in(alloc: Global, own: bool, module: &Module, bound: Bound) -> Result<Named, ElabFault>
     requires sound { IsSoundModule «module».now }
     requires scope { bound.scope ≡ variables «module».now }
     requires uses { AreNext bound.scope (flat_map item_names «module».now.items) bound.uses.items }
     requires fine { text_fault own «module».now ≡ None }
-    ensures named { IfOk result (λ found. IfOk found (λ named. named ≡ denoted «module».now)) }
-    ensures valid { IfOk result (λ found. OnOk found (IsNamed (denoted «module».now))) }
-    ensures fine { IfOk result (λ found. OnOk found (net_fault (variables_in «module».now) (work_in «module».now) ≡ None)) }
-    ensures fault { IfOk result (λ found. IfErr found (λ fault. net_fault (variables_in «module».now) (work_in «module».now) ≡ Some fault)) }
+    ensures named { IfOk result (λ named. named ≡ denoted «module».now) }
+    ensures valid { OnOk result (IsNamed (denoted «module».now)) }
+    ensures fine { OnOk result (net_fault (variables_in «module».now) (work_in «module».now) ≡ None) }
+    ensures fault { IfErr result (λ fault. fault ≢ NoMemory → net_fault (variables_in «module».now) (work_in «module».now) ≡ Some fault) }
 {
     let (vars, work) = made_in(alloc, module, bound)?;
     let name = module.name.copy(alloc)?;
@@ -137,14 +128,8 @@ pub fn elaborate(alloc: Global, module: &Module, own: bool) -> Result<(Named, Or
     ensures order { IfOk result (λ found. IsOrder found.0.netlist.gates found.1) }
     ensures fault { IfErr result (λ fault. fault ≢ NoMemory → IsOutcome own «module».now (Err fault)) }
 {
-    let bound = match checked(alloc, own, module)? {
-        Ok(bound) => bound,
-        Err(fault) => return Err(fault),
-    };
-    let named = match named_in(alloc, own, module, bound)? {
-        Ok(named) => named,
-        Err(fault) => return Err(fault),
-    };
+    let bound = checked(alloc, own, module)?;
+    let named = named_in(alloc, own, module, bound)?;
     let order = ordered(alloc, &named)?;
     Ok((named, order))
 }

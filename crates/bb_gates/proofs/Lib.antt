@@ -3,3 +3,4 @@ pub mod StepLaws
 pub mod AllItems
 pub mod WithinGates
 pub mod WithinSteps
+pub mod Growing

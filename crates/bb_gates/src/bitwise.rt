@@ -1,6 +1,6 @@
 //! The gates of operators.
 
-ghost use Rattle.std.specs.Prelude.{◌≡◌, ◌∷◌, [], ◌++◌, IfOk};
+ghost use Rattle.std.specs.Prelude.{◌≡◌, ◌<◌, ◌^◌, ◌∷◌, [], ◌++◌, IfOk};
 ghost use Rattle.bb_gates.specs.Making.{grounded, each_alone, each_pair, each_choice, as_value, inverted, joined_by, choice_between, first_out};
 ghost use Rattle.bb_drive.specs.Work.{Makes};
 ghost use Rattle.bb_gates.specs.Targets.{outs_in, outs_after, one_choice};
@@ -14,6 +14,7 @@ use std::alloc::{AllocError, Global};
 
 /// The nets of an operand, of which each constant bit gets one of its own.
 pub(crate) fn grounded(work: &mut Work, bits: &[Bit]) -> Result<Vec<NetId>, AllocError>
+    requires room { (grounded bits.now work.old).1.fresh < 2 ^ 32 }
     ensures { IfOk result (λ nets. Makes (grounded bits.now) work.old nets.items work.new) }
 {
     let mut nets = Vec::with_capacity(work.alloc, bits.len())?;
@@ -46,6 +47,7 @@ fn each_alone(
     xs: &[NetId],
     outs: Option<&[NetId]>,
 ) -> Result<Vec<NetId>, AllocError>
+    requires room { (each_alone op xs.now (outs_in outs) work.old).1.fresh < 2 ^ 32 }
     ensures { IfOk result (λ nets. Makes (each_alone op xs.now (outs_in outs.entry)) work.old nets.items work.new) }
 {
     let mut nets = Vec::with_capacity(work.alloc, xs.len())?;
@@ -64,6 +66,7 @@ fn each_pair(
     ys: &[NetId],
     outs: Option<&[NetId]>,
 ) -> Result<Vec<NetId>, AllocError>
+    requires room { (each_pair op xs.now ys.now (outs_in outs) work.old).1.fresh < 2 ^ 32 }
     ensures { IfOk result (λ nets. Makes (each_pair op xs.now ys.now (outs_in outs.entry)) work.old nets.items work.new) }
 {
     let mut nets = Vec::with_capacity(work.alloc, xs.len())?;
@@ -87,6 +90,7 @@ fn with_last(alloc: Global, nets: &[NetId], last: NetId) -> Result<SmallVec<NetI
 }
 
 /// And of the condition and a, And of its Not and b, and Or of these.
+#[tactic(auto, using(crate::proofs::Growing::growth))]
 fn one_choice(
     work: &mut Work,
     condition: &[NetId],
@@ -95,6 +99,7 @@ fn one_choice(
     b: NetId,
     target: Option<NetId>,
 ) -> Result<NetId, AllocError>
+    requires room { (one_choice condition.now inverse a b target work.old).1.fresh < 2 ^ 32 }
     ensures { IfOk result (λ net. Makes (one_choice condition.now inverse a b target) work.old net work.new) }
 {
     let ins = with_last(work.alloc, condition, a)?;
@@ -112,6 +117,7 @@ pub(crate) fn each_choice(
     ys: &[NetId],
     outs: Option<&[NetId]>,
 ) -> Result<Vec<NetId>, AllocError>
+    requires room { (each_choice condition.now inverse xs.now ys.now (outs_in outs) work.old).1.fresh < 2 ^ 32 }
     ensures { IfOk result (λ nets. Makes (each_choice condition.now inverse xs.now ys.now (outs_in outs.entry)) work.old nets.items work.new) }
 {
     let mut nets = Vec::with_capacity(work.alloc, xs.len())?;
@@ -137,11 +143,13 @@ pub(crate) fn as_value(alloc: Global, nets: &[NetId]) -> Result<Vec<Bit>, AllocE
 }
 
 /// Not of each bit.
+#[tactic(auto, using(crate::proofs::Growing::growth))]
 pub(crate) fn inverted(
     work: &mut Work,
     outs: Option<&[NetId]>,
     a: &[Bit],
 ) -> Result<Vec<Bit>, AllocError>
+    requires room { (inverted (outs_in outs) a.now work.old).1.fresh < 2 ^ 32 }
     ensures { IfOk result (λ value. Makes (inverted (outs_in outs.entry) a.now) work.old value.items work.new) }
 {
     let xs = grounded(work, a)?;
@@ -150,6 +158,7 @@ pub(crate) fn inverted(
 }
 
 /// An operator of two operands, bit by bit.
+#[tactic(auto, using(crate::proofs::Growing::growth))]
 pub(crate) fn joined_by(
     work: &mut Work,
     op: Op,
@@ -157,6 +166,7 @@ pub(crate) fn joined_by(
     a: &[Bit],
     b: &[Bit],
 ) -> Result<Vec<Bit>, AllocError>
+    requires room { (joined_by op (outs_in outs) a.now b.now work.old).1.fresh < 2 ^ 32 }
     ensures { IfOk result (λ value. Makes (joined_by op (outs_in outs.entry) a.now b.now) work.old value.items work.new) }
 {
     let left = grounded(work, a)?;
@@ -166,6 +176,7 @@ pub(crate) fn joined_by(
 }
 
 /// Where the condition is true the second operand, and else the third.
+#[tactic(auto, using(crate::proofs::Growing::growth))]
 pub(crate) fn chosen(
     work: &mut Work,
     outs: Option<&[NetId]>,
@@ -173,6 +184,7 @@ pub(crate) fn chosen(
     a: &[Bit],
     b: &[Bit],
 ) -> Result<Vec<Bit>, AllocError>
+    requires room { (choice_between (outs_in outs) condition.now a.now b.now work.old).1.fresh < 2 ^ 32 }
     ensures { IfOk result (λ value. Makes (choice_between (outs_in outs.entry) condition.now a.now b.now) work.old value.items work.new) }
 {
     let zs = grounded(work, condition)?;

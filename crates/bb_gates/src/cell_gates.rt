@@ -1,6 +1,6 @@
 //! The gates and flip-flops of cells.
 
-ghost use Rattle.std.specs.Prelude.{◌≡◌, IfOk, OnOk, drop, length, map};
+ghost use Rattle.std.specs.Prelude.{◌≡◌, ◌<◌, ◌^◌, IfOk, OnOk, drop, length, map};
 ghost use Rattle.std.specs.Option.{option_map};
 ghost use Rattle.bb_scope.specs.Names.{pin_names, conns_names};
 ghost use Rattle.bb_scope.specs.Uses.{AreNext, pins_names};
@@ -105,7 +105,7 @@ fn pins_of<'a>(alloc: Global, kind: &Kind, conns: &'a Conns) -> Result<Vec<Pin<'
 }
 
 /// The uses behind those of what a pin is connected to.
-fn behind_pin<'a, 'b>(uses: &'b [u32], pin: &Pin<'a>) -> &'b [u32]
+fn behind_pin<'a, 'b>(uses: &'b [usize], pin: &Pin<'a>) -> &'b [usize]
     ensures { result.now ≡ drop (length (pin_names pin.now.1)) uses.now }
 {
     match pin.expr {
@@ -119,10 +119,11 @@ fn pins_made<'a>(
     work: &mut Work,
     scope: &Scope,
     kind: &Kind,
-    uses: &[u32],
+    uses: &[usize],
     pins: &[Pin<'a>],
 ) -> Result<Vec<PinNets<'a>>, AllocError>
-    requires { AreNext scope.now (pins_names pins.now) uses.now }
+    requires next { AreNext scope.now (pins_names pins.now) uses.now }
+    requires room { (pins_made scope.now (kind_value kind.now) pins.now work.old).1.fresh < 2 ^ 32 }
     ensures { IfOk result (λ read. Makes (pins_made scope.now (kind_value kind.now) pins.now) work.old read.items work.new) }
 {
     let mut read = Vec::with_capacity(work.alloc, pins.len())?;
@@ -174,7 +175,7 @@ fn out_of<'a>(
     alloc: Global,
     scope: &Scope,
     kind: &Kind,
-    uses: &[u32],
+    uses: &[usize],
     pins: &[Pin<'a>],
 ) -> Result<Option<Vec<NetId>>, AllocError>
     requires { AreNext scope.now (pins_names pins.now) uses.now }
@@ -195,12 +196,13 @@ fn out_of<'a>(
 }
 
 /// The net that takes the output: a new one, unless there is a target.
-fn out_net(work: &mut Work, target: Option<NetId>) -> Result<NetId, AllocError>
-    ensures { IfOk result (λ net. Makes (out_net target) work.old net work.new) }
+fn out_net(work: &mut Work, target: Option<NetId>) -> NetId
+    requires room { (out_net target work.old).1.fresh < 2 ^ 32 }
+    ensures { Makes (out_net target) work.old result work.new }
 {
     match target {
         None => work.new_net(),
-        Some(target) => Ok(target),
+        Some(target) => target,
     }
 }
 
@@ -220,12 +222,13 @@ fn flip_flop_made(
     outs: Option<&[NetId]>,
     ins: &[&[NetId]],
 ) -> Result<(), AllocError>
+    requires room { (flip_flop_made (outs_in outs) (map (λ r. r.now) ins.now) work.old).1.fresh < 2 ^ 32 }
     ensures { OnOk result (work.new ≡ (flip_flop_made (outs_in outs.entry) (map (λ r. r.now) ins.now) work.old).1) }
 {
     let [[clock, ..], [d, ..], ..] = ins else {
         return Ok(());
     };
-    let q = out_net(work, first_out(outs))?;
+    let q = out_net(work, first_out(outs));
     work.flops.push(Clocked {
         q,
         d: *d,
@@ -252,6 +255,7 @@ fn gate_made(
     outs: Option<&[NetId]>,
     ins: &[NetId],
 ) -> Result<(), AllocError>
+    requires room { (gate_made op (outs_in outs) ins.now work.old).1.fresh < 2 ^ 32 }
     ensures { OnOk result (work.new ≡ (gate_made op (outs_in outs.entry) ins.now work.old).1) }
 {
     work.make_onto(op, ins, first_out(outs))?;
@@ -259,12 +263,14 @@ fn gate_made(
 }
 
 /// Not of the second input, and then a gate of the first and it.
+#[tactic(auto, using(crate::proofs::Growing::growth))]
 fn second_inverted(
     work: &mut Work,
     op: Op,
     outs: Option<&[NetId]>,
     ins: &[&[NetId]],
 ) -> Result<(), AllocError>
+    requires room { (second_inverted op (outs_in outs) (map (λ r. r.now) ins.now) work.old).1.fresh < 2 ^ 32 }
     ensures { OnOk result (work.new ≡ (second_inverted op (outs_in outs.entry) (map (λ r. r.now) ins.now) work.old).1) }
 {
     let [first, second, ..] = ins else {
@@ -277,11 +283,13 @@ fn second_inverted(
 }
 
 /// The second input where the third is 1, and else the first.
+#[tactic(auto, using(crate::proofs::Growing::growth))]
 fn multiplexer_made(
     work: &mut Work,
     outs: Option<&[NetId]>,
     ins: &[&[NetId]],
 ) -> Result<(), AllocError>
+    requires room { (multiplexer_made (outs_in outs) (map (λ r. r.now) ins.now) work.old).1.fresh < 2 ^ 32 }
     ensures { OnOk result (work.new ≡ (multiplexer_made (outs_in outs.entry) (map (λ r. r.now) ins.now) work.old).1) }
 {
     let [first, second, select, ..] = ins else {
@@ -299,6 +307,7 @@ fn body_made(
     outs: Option<&[NetId]>,
     ins: &[&[NetId]],
 ) -> Result<(), AllocError>
+    requires room { (body_made body (outs_in outs) (map (λ r. r.now) ins.now) work.old).1.fresh < 2 ^ 32 }
     ensures { OnOk result (work.new ≡ (body_made body (outs_in outs.entry) (map (λ r. r.now) ins.now) work.old).1) }
 {
     match body {
@@ -313,14 +322,16 @@ fn body_made(
 }
 
 /// The gates of an instance by its pins: those of what they are connected to come first.
+#[tactic(auto, using(crate::proofs::Growing::growth))]
 fn kind_made<'a>(
     work: &mut Work,
     scope: &Scope,
     kind: &Kind,
-    uses: &[u32],
+    uses: &[usize],
     pins: &[Pin<'a>],
 ) -> Result<(), AllocError>
-    requires { AreNext scope.now (pins_names pins.now) uses.now }
+    requires next { AreNext scope.now (pins_names pins.now) uses.now }
+    requires room { (kind_made scope.now (kind_value kind.now) pins.now work.old).1.fresh < 2 ^ 32 }
     ensures { OnOk result (work.new ≡ (kind_made scope.now (kind_value kind.now) pins.now work.old).1) }
 {
     let read = pins_made(work, scope, kind, uses, pins)?;
@@ -336,10 +347,11 @@ pub(crate) fn cell_made(
     work: &mut Work,
     scope: &Scope,
     cell: &Name,
-    uses: &[u32],
+    uses: &[usize],
     conns: &Conns,
 ) -> Result<(), AllocError>
-    requires { AreNext scope.now (conns_names conns.now) uses.now }
+    requires next { AreNext scope.now (conns_names conns.now) uses.now }
+    requires room { (cell_made scope.now (kind_of cell.now) conns.now work.old).1.fresh < 2 ^ 32 }
     ensures { OnOk result (work.new ≡ (cell_made scope.now (kind_of cell.now) conns.now work.old).1) }
 {
     let Some(kind) = kind_of(cell.bytes()) else {

@@ -1,6 +1,6 @@
 //! The gates and flip-flops of items.
 
-ghost use Rattle.std.specs.Prelude.{◌≡◌, IfOk, OnOk, map, flat_map};
+ghost use Rattle.std.specs.Prelude.{◌≡◌, ◌<◌, ◌^◌, IfOk, OnOk, map, flat_map};
 ghost use Rattle.bb_scope.specs.Names.{item_names};
 ghost use Rattle.bb_base.specs.Variables.{bit_count};
 ghost use Rattle.bb_scope.specs.Uses.{AreNext};
@@ -24,7 +24,7 @@ use std::alloc::{AllocError, Global};
 fn targets(
     alloc: Global,
     scope: &Scope,
-    uses: &[u32],
+    uses: &[usize],
     left: &[Ref],
 ) -> Result<Vec<NetId>, AllocError>
     requires { AreNext scope.now (map (λ r. r.name) left.now) uses.now }
@@ -41,8 +41,9 @@ fn targets(
 
 /// The gates of an item.
 #[tactic(auto, using(bb_scope::proofs::UseLaws::use_laws))]
-fn item_made(work: &mut Work, scope: &Scope, uses: &[u32], item: &Item) -> Result<(), AllocError>
-    requires { AreNext scope.now (item_names item.now) uses.now }
+fn item_made(work: &mut Work, scope: &Scope, uses: &[usize], item: &Item) -> Result<(), AllocError>
+    requires next { AreNext scope.now (item_names item.now) uses.now }
+    requires room { (item_made scope.now item.now work.old).1.fresh < 2 ^ 32 }
     ensures { OnOk result (work.new ≡ (item_made scope.now item.now work.old).1) }
 {
     match item {
@@ -69,10 +70,11 @@ fn item_made(work: &mut Work, scope: &Scope, uses: &[u32], item: &Item) -> Resul
 fn items_made(
     work: &mut Work,
     scope: &Scope,
-    uses: &[u32],
+    uses: &[usize],
     items: &[Item],
 ) -> Result<(), AllocError>
-    requires { AreNext scope.now (flat_map item_names items.now) uses.now }
+    requires next { AreNext scope.now (flat_map item_names items.now) uses.now }
+    requires room { (items_made scope.now items.now work.old).fresh < 2 ^ 32 }
     ensures { OnOk result (work.new ≡ items_made scope.now items.now work.old) }
 {
     let mut rest = uses;
@@ -83,29 +85,29 @@ fn items_made(
     Ok(())
 }
 
-/// The number of the first net that is made: how many bits the variables have. (Numbers run out long after the limit on bits.)
-fn first_made(table: &IndexMap<Name, Variable>) -> Result<u32, AllocError>
-    ensures { IfOk result (λ first. first ≡ bit_count table.now.entries) }
+/// The number of the first net that is made: how many bits the variables have.
+fn first_made(table: &IndexMap<Name, Variable>) -> u32
+    requires { bit_count table.now.entries < 2 ^ 32 }
+    ensures { result ≡ bit_count table.now.entries }
 {
-    match u32::try_from(bit_count(table)) {
-        Ok(first) => Ok(first),
-        Err(_) => Err(AllocError),
-    }
+    bit_count(table) as u32
 }
 
-/// All that items make over the variables of their module.
+/// All that items make over the variables of their module, whose bits and made nets are counted before: there are numbers for all.
+#[tactic(auto, using(crate::proofs::Growing::growth))]
 pub fn work_of(
     alloc: Global,
     scope: &Scope,
-    uses: &[u32],
+    uses: &[usize],
     items: &[Item],
 ) -> Result<Work, AllocError>
-    requires { AreNext scope.now (flat_map item_names items.now) uses.now }
+    requires next { AreNext scope.now (flat_map item_names items.now) uses.now }
+    requires room { (work_of scope.now items.now).fresh < 2 ^ 32 }
     ensures { IfOk result (λ work. work ≡ work_of scope.now items.now) }
 {
     let mut work = Work {
         alloc,
-        fresh: first_made(scope.table())?,
+        fresh: first_made(scope.table()),
         gates: Vec::new(alloc),
         flops: Vec::new(alloc),
     };

@@ -1,6 +1,6 @@
 //! The gates of primitives.
 
-ghost use Rattle.std.specs.Prelude.{◌≡◌, ◌≤◌, ◌-◌, ◌++◌, ◌∷◌, [], OnOk, IfOk, flat_map};
+ghost use Rattle.std.specs.Prelude.{◌≡◌, ◌≤◌, ◌<◌, ◌^◌, ◌-◌, ◌++◌, ◌∷◌, [], OnOk, IfOk, flat_map};
 ghost use Rattle.std.specs.List.{range_with_len};
 ghost use Rattle.bb_scope.specs.Names.{steps_names};
 ghost use Rattle.bb_scope.specs.Uses.{AreNext};
@@ -21,10 +21,11 @@ use std::alloc::AllocError;
 fn terminals_made(
     work: &mut Work,
     scope: &Scope,
-    uses: &[u32],
+    uses: &[usize],
     terms: &[Expr],
 ) -> Result<Vec<NetId>, AllocError>
-    requires { AreNext scope.now (flat_map steps_names terms.now) uses.now }
+    requires next { AreNext scope.now (flat_map steps_names terms.now) uses.now }
+    requires room { (terminals_made scope.now terms.now work.old).1.fresh < 2 ^ 32 }
     ensures { IfOk result (λ nets. Makes (terminals_made scope.now terms.now) work.old nets.items work.new) }
 {
     let mut nets = Vec::new(work.alloc);
@@ -51,7 +52,7 @@ fn add_bits(nets: &mut Vec<NetId>, bits: Bits) -> Result<(), AllocError>
 /// Adds the bits that a reference names.
 pub(crate) fn add_ref_bits(
     scope: &Scope,
-    uses: &[u32],
+    uses: &[usize],
     reference: &Ref,
     nets: &mut Vec<NetId>,
 ) -> Result<(), AllocError>
@@ -65,7 +66,7 @@ pub(crate) fn add_ref_bits(
 #[tactic(auto, using(bb_scope::proofs::UseLaws::use_laws))]
 pub(crate) fn add_driven_bits(
     scope: &Scope,
-    uses: &[u32],
+    uses: &[usize],
     steps: &[Step],
     nets: &mut Vec<NetId>,
 ) -> Result<(), AllocError>
@@ -81,7 +82,7 @@ pub(crate) fn add_driven_bits(
 /// Adds the nets of terminals that are driven.
 fn add_all_driven_bits(
     scope: &Scope,
-    uses: &[u32],
+    uses: &[usize],
     terms: &[Expr],
     nets: &mut Vec<NetId>,
 ) -> Result<(), AllocError>
@@ -120,14 +121,16 @@ fn parts_of(op: Op, terms: &[Expr]) -> (&[Expr], &[Expr])
 }
 
 /// The gates of a primitive: those of the terminals that it reads come first, and then one for each net that it drives.
+#[tactic(auto, using(crate::proofs::Growing::growth))]
 pub(crate) fn prim_made(
     work: &mut Work,
     scope: &Scope,
     op: Op,
-    uses: &[u32],
+    uses: &[usize],
     terms: &[Expr],
 ) -> Result<(), AllocError>
-    requires { AreNext scope.now (flat_map steps_names terms.now) uses.now }
+    requires next { AreNext scope.now (flat_map steps_names terms.now) uses.now }
+    requires room { (prim_made scope.now op terms.now work.old).1.fresh < 2 ^ 32 }
     ensures { OnOk result (work.new ≡ (prim_made scope.now op terms.now work.old).1) }
 {
     let (outs, ins) = parts_of(op, terms);

@@ -1,6 +1,6 @@
 //! The gates of expressions.
 
-ghost use Rattle.std.specs.Prelude.{◌≡◌, ◌∷◌, [], ◌-◌, ◌^◌, ◌/◌, ◌%◌, ◌==◌, reverse, take, drop, OnOk, IfOk, IfSome, IfNone};
+ghost use Rattle.std.specs.Prelude.{◌≡◌, ◌<◌, ◌∷◌, [], ◌-◌, ◌^◌, ◌/◌, ◌%◌, ◌==◌, reverse, take, drop, OnOk, IfOk, IfSome, IfNone};
 ghost use Rattle.std.specs.List.{range_with_len};
 ghost use Rattle.bb_scope.specs.Names.{step_names, steps_names};
 ghost use Rattle.bb_scope.specs.Uses.{AreNext};
@@ -153,6 +153,7 @@ fn const_bits(alloc: Global, size: u8, number: u128) -> Result<Vec<Bit>, AllocEr
 
 /// The operand of `~` becomes its value.
 fn not_made(work: &mut Work, outs: Option<&[NetId]>, stack: &mut Values) -> Result<(), AllocError>
+    requires room { (not_made (outs_in outs) stack.old work.old).1.fresh < 2 ^ 32 }
     ensures { OnOk result (Makes (not_made (outs_in outs.entry) stack.old) work.old stack.new work.new) }
 {
     let Some(a) = stack.pop() else {
@@ -169,6 +170,7 @@ fn two_made(
     outs: Option<&[NetId]>,
     stack: &mut Values,
 ) -> Result<(), AllocError>
+    requires room { (two_made op (outs_in outs) stack.old work.old).1.fresh < 2 ^ 32 }
     ensures { OnOk result (Makes (two_made op (outs_in outs.entry) stack.old) work.old stack.new work.new) }
 {
     let Some(b) = stack.pop() else {
@@ -187,6 +189,7 @@ fn choice_made(
     outs: Option<&[NetId]>,
     stack: &mut Values,
 ) -> Result<(), AllocError>
+    requires room { (choice_made (outs_in outs) stack.old work.old).1.fresh < 2 ^ 32 }
     ensures { OnOk result (Makes (choice_made (outs_in outs.entry) stack.old) work.old stack.new work.new) }
 {
     let Some(b) = stack.pop() else {
@@ -207,11 +210,12 @@ fn step_made(
     work: &mut Work,
     scope: &Scope,
     outs: Option<&[NetId]>,
-    uses: &[u32],
+    uses: &[usize],
     step: &Step,
     stack: &mut Values,
 ) -> Result<(), AllocError>
-    requires { AreNext scope.now (step_names step.now) uses.now }
+    requires next { AreNext scope.now (step_names step.now) uses.now }
+    requires room { (step_made scope.now (outs_in outs) step.now stack.old work.old).1.fresh < 2 ^ 32 }
     ensures { OnOk result (Makes (step_made scope.now (outs_in outs.entry) step.now stack.old) work.old stack.new work.new) }
 {
     match step {
@@ -233,11 +237,12 @@ fn step_made(
 fn steps_made(
     work: &mut Work,
     scope: &Scope,
-    uses: &[u32],
+    uses: &[usize],
     steps: &[Step],
     stack: &mut Values,
 ) -> Result<(), AllocError>
-    requires { AreNext scope.now (steps_names steps.now) uses.now }
+    requires next { AreNext scope.now (steps_names steps.now) uses.now }
+    requires room { (steps_made scope.now steps.now stack.old work.old).1.fresh < 2 ^ 32 }
     ensures { OnOk result (Makes (steps_made scope.now steps.now stack.old) work.old stack.new work.new) }
 {
     let mut rest = uses;
@@ -249,13 +254,15 @@ fn steps_made(
 }
 
 /// The net of a terminal or pin that is read, as a list of one.
+#[tactic(auto, using(crate::proofs::Growing::growth))]
 pub(crate) fn terminal_made(
     work: &mut Work,
     scope: &Scope,
-    uses: &[u32],
+    uses: &[usize],
     steps: &[Step],
 ) -> Result<Vec<NetId>, AllocError>
-    requires { AreNext scope.now (steps_names steps.now) uses.now }
+    requires next { AreNext scope.now (steps_names steps.now) uses.now }
+    requires room { (terminal_made scope.now steps.now work.old).1.fresh < 2 ^ 32 }
     ensures { IfOk result (λ nets. Makes (terminal_made scope.now steps.now) work.old nets.items work.new) }
 {
     if let [Step::Ref(reference)] = steps {
@@ -297,15 +304,16 @@ fn is_operator(step: &Step) -> bool
 }
 
 /// The gates of an assign: those of an operator that stands last drive the targets.
-#[tactic(auto, using(bb_scope::proofs::UseLaws::use_laws))]
+#[tactic(auto, using(bb_scope::proofs::UseLaws::use_laws, crate::proofs::Growing::growth))]
 pub(crate) fn assigned(
     work: &mut Work,
     scope: &Scope,
     targets: &[NetId],
-    uses: &[u32],
+    uses: &[usize],
     steps: &[Step],
 ) -> Result<(), AllocError>
-    requires { AreNext scope.now (steps_names steps.now) uses.now }
+    requires next { AreNext scope.now (steps_names steps.now) uses.now }
+    requires room { (assigned scope.now targets.now steps.now [] work.old).1.fresh < 2 ^ 32 }
     ensures { IfOk result (λ done. work.new ≡ (assigned scope.now targets.now steps.now [] work.old).1) }
 {
     let mut stack = Values::new(work.alloc);

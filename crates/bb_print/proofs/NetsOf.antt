@@ -4,8 +4,7 @@ use Rattle.std.specs.List.{AllByRecursion, flat_map}
 use Rattle.std.proofs.lemmas.List.Elements.{recursion_from_All}
 use Rattle.bb_netlist.specs.Net.{Gate, Flop, driven, reads}
 use Rattle.bb_net.specs.Named.{Named, IsNamed}
-use Rattle.bb_base.proofs.Lists.{all_front, all_back, all_map}
-use Rattle.bb_spell.proofs.Nets.{all_flat}
+use Rattle.bb_base.proofs.Lists.{all_front, all_back, all_map, all_parts}
 
 module _ (a : Named) (h : IsNamed a) where
   abbrev IsNet : ℕ → Type 0
@@ -51,7 +50,7 @@ module _ (a : Named) (h : IsNamed a) where
   gate_outs = all_map IsNet (λ (g : Gate ℕ). IsNet g.out) (λ (g : Gate ℕ). g.out) (λ g k. k) a.netlist.gates out_nets
 
   pub gate_ins : AllByRecursion (λ (g : Gate ℕ). AllByRecursion (λ n. n < length a.names) g.ins) a.netlist.gates
-  gate_ins = all_flat IsNet (λ (g : Gate ℕ). g.ins) a.netlist.gates in_nets
+  gate_ins = all_parts IsNet (λ (g : Gate ℕ). g.ins) a.netlist.gates in_nets
 
   pub flop_qs : AllByRecursion (λ (f : Flop ℕ). f.q < length a.names) a.netlist.flops
   flop_qs = all_map IsNet (λ (f : Flop ℕ). IsNet f.q) (λ (f : Flop ℕ). f.q) (λ f k. k) a.netlist.flops q_nets

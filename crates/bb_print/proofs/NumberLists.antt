@@ -132,10 +132,6 @@ range_has from (suc n) m a b = go (nat_eq m from) refl (λ less. range_has (from
 pub range_all : (n m : ℕ) → m < n → has_bit (range_with_len 0 n) m ≡ true
 range_all n m h = range_has 0 n m (omega arith) (omega arith)
 
-pub range_long : (from n : ℕ) → length (range_with_len from n) ≡ n
-range_long from zero = refl
-range_long from (suc n) = ap suc (range_long (from + 1) n)
-
 -- and stands there once
 pub times_past_range : (b from n : ℕ) → from + n ≤ b → times b (range_with_len from n) ≡ 0
 times_past_range b from zero h = refl

@@ -1,5 +1,5 @@
 -- The clock of what a canonical text's module makes, and the nets but the clock's.
-use Rattle.std.proofs.Common.{◌≡◌, ◌≢◌, inl, inr, ℕ, ◌<◌, ◌≤◌, zero, suc, List, [], ◌∷◌, length, map, Option, Some, None, Bool, true, false, not, ◌&&◌, nat_eq, refl, sym, ap, ◌∙◌, arith, subst, if◌then◌else◌}
+use Rattle.std.proofs.Common.{◌≡◌, ◌≢◌, inl, inr, ℕ, ◌<◌, zero, suc, List, [], ◌∷◌, length, map, Option, Some, None, Bool, true, false, not, ◌&&◌, nat_eq, refl, sym, ap, ◌∙◌, arith, subst, if◌then◌else◌}
 use Rattle.std.specs.Prelude.{filter, find, flat_map}
 use Rattle.std.specs.List.{AllByRecursion, range_with_len}
 use Rattle.std.specs.Option.{option_map, option_or}
@@ -22,8 +22,8 @@ use Rattle.bb_print.proofs.PrintedBits.{number_of}
 use Rattle.bb_print.proofs.PrintedWork.{net_number, clocked_by, flops_by}
 use Rattle.bb_print.proofs.PrintedNets.{net_below, clock_apart, no_flops, some_flops, work_by, inputs_none, inputs_some, outputs_are, IsNumber, is_net_bit, net_numbers, net_driven, clock_input, ds_are}
 use Rattle.bb_print.proofs.NetsOf.{output_nets, d_nets, gate_outs, gate_ins}
-use Rattle.bb_print.proofs.Sieves.{all_true, and_false, both_keep, filter_all, filter_few, flat_all, found_has, found_none, none_found, or_left, or_none, weaken}
-use Rattle.bb_print.proofs.NumberLists.{eq_itself, eq_other, eq_same, filter_has, filter_rises, has_all, has_none, range_all, range_long}
+use Rattle.bb_print.proofs.Sieves.{all_true, and_false, both_keep, filter_all, flat_all, found_has, found_none, none_found, or_left, or_none, weaken}
+use Rattle.bb_print.proofs.NumberLists.{eq_itself, eq_other, eq_same, filter_has, filter_rises, has_all, has_none, range_all}
 use Rattle.bb_drive.specs.Clock.{copied_net}
 
 -- lists -----------------------------------------------------------------------------
@@ -211,8 +211,3 @@ module _ (a : Named) (h : IsNamed a) where
 
   pub kept_rises : (o : Option BitName) → Rising (kept a.variables (work_by a h o))
   kept_rises o = filter_rises (is_data (work_by a h o)) (nets a.variables (work_by a h o)) (filter_rises (is_net_bit a h o) (range_with_len 0 (bit_count a.variables)) (range_rises 0 (bit_count a.variables)))
-
-  pub kept_few : (o : Option BitName) → length (kept a.variables (work_by a h o)) ≤ bit_count a.variables
-  kept_few o =
-      let all : List ℕ = range_with_len 0 (bit_count a.variables) in
-      omega (arith, filter_few (is_data (work_by a h o)) (nets a.variables (work_by a h o)), filter_few (is_net_bit a h o) all, range_long 0 (bit_count a.variables))

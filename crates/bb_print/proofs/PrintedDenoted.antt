@@ -9,7 +9,7 @@ use Rattle.std.proofs.lemmas.List.{get_or-map, get_or_default}
 use Rattle.std.proofs.lemmas.List.Elements.{All-from_recursion, recursion_from_All, All-map}
 use Rattle.std.proofs.lemmas.List.Sums.{passes_at_first}
 use Rattle.bb_base.specs.declared.variable.BitName.{BitName}
-use Rattle.bb_netlist.specs.Net.{Gate, Flop, Netlist, driven, renamed, renamed_gate, renamed_flop}
+use Rattle.bb_netlist.specs.Net.{Gate, Flop, renamed, renamed_gate, renamed_flop}
 use Rattle.bb_base.specs.Variables.{Entry, IsBit, range_width, bit_count, limit_of, StandsBefore}
 use Rattle.bb_net.specs.Named.{Named, IsNamed, design_of, name_of_net, IsByBits}
 use Rattle.bb_netlist.specs.Order.{IsOrder, HasOrder}
@@ -21,31 +21,19 @@ use Rattle.bb_drive.specs.Clock.{clock_of}
 use Rattle.bb_assemble.specs.NamedOf.{kept, named_of}
 use Rattle.bb_assemble.specs.NamedOf.{place_among, netlist_by_number}
 use Rattle.bb_elab.specs.Outcome.{work_in, variables_in, net_fault, first_fault, denoted, IsOutcome}
+use Rattle.bb_elab.proofs.CountedFault.{counted_first}
 use Rattle.bb_print.specs.Elaborated.{HasNamesFor, IsElaborable}
 use Rattle.bb_canon_parse.specs.Printed.{spelled_module}
 use Rattle.bb_spell.proofs.Rising.{Rising}
 use Rattle.bb_print.proofs.PrintedBits.{bit_number, number_of, bit_again}
 use Rattle.bb_print.proofs.PrintedWork.{net_number, net_bit, printed_variables, printed_work, printed_text}
 use Rattle.bb_print.proofs.PrintedNets.{clock_bit, work_by, no_driver_fault, all_variables_are}
-use Rattle.bb_print.proofs.PrintedClock.{no_clock_fault, clock_is, by_bits_are, IsNetBit, kept_nets, kept_has, kept_rises, kept_few}
-use Rattle.bb_print.proofs.Renumbered.{Numbers, driven_renamed, renumbered, renumbered_named, renumbered_design, renumbered_order}
+use Rattle.bb_print.proofs.PrintedClock.{no_clock_fault, clock_is, by_bits_are, IsNetBit, kept_nets, kept_has, kept_rises}
+use Rattle.bb_net.proofs.Renaming.{renamed_twice}
+use Rattle.bb_print.proofs.Renumbered.{Numbers, renumbered, renumbered_named, renumbered_design, renumbered_order}
 use Rattle.bb_print.proofs.NetsOf.{input_nets, output_nets, gate_outs, gate_ins, flop_qs, flop_ds}
 use Rattle.bb_print.proofs.Sieves.{fixed, or_none, weaken}
 use Rattle.bb_print.proofs.NumberLists.{has_all, has_at, place_again, place_within, rising_same}
-
--- places of numbers ------------------------------------------------------------------
-
--- renaming twice ----------------------------------------------------------------------
-
-gate_twice : (f g : ℕ → ℕ) (x : Gate ℕ) → renamed_gate f (renamed_gate g x) ≡ renamed_gate (λ n. f (g n)) x
-gate_twice f g x = λ i. record { op = x.op; out = f (g x.out); ins = map_twice f g x.ins i }
-
-gates_twice : (f g : ℕ → ℕ) (xs : List (Gate ℕ)) → map (renamed_gate f) (map (renamed_gate g) xs) ≡ map (renamed_gate (λ n. f (g n))) xs
-gates_twice f g [] = refl
-gates_twice f g (x ∷ xs) = λ i. gate_twice f g x i ∷ gates_twice f g xs i
-
-renamed_twice : (f g : ℕ → ℕ) (n : Netlist ℕ) → renamed f (renamed g n) ≡ renamed (λ m. f (g m)) n
-renamed_twice f g n = λ i. record { inputs = map_twice f g n.inputs i; outputs = map_twice f g n.outputs i; gates = gates_twice f g n.gates i; flops = map_twice (renamed_flop f) (renamed_flop g) n.flops i }
 
 abbrev none : BitName
 none = record { variable = 0; place = 0 }
@@ -90,7 +78,7 @@ module _ (a : Named) (h : IsNamed a) where
         go (Some c) f = ap Some (bit_again a.variables c (clock_bit a h c f))
 
     netlist_same : netlist_by_number a.variables (work_by a h o) ≡ renamed (rho o) a.netlist
-    netlist_same = ap (renamed (place_among (bits o))) (by_bits_are a h o e) ∙ renamed_twice (place_among (bits o)) (net_number a) a.netlist
+    netlist_same = ap (renamed (place_among (bits o))) (by_bits_are a h o e) ∙ renamed_twice (net_number a) (place_among (bits o)) a.netlist
 
     named_same : named_of a.module_name a.variables (work_by a h o) ≡ renumbered a (names o) (rho o)
     named_same = λ i. record { module_name = a.module_name; variables = a.variables; clock = clock_same i; names = names o; netlist = netlist_same i }
@@ -192,7 +180,7 @@ module _ (a : Named) (h : IsNamed a) where
 
   -- has no fault
   pub no_fault : (own : Bool) → HasNamesFor own a → bit_count a.variables ≤ limit_of own → first_fault own (spelled_module (design_of a)) ≡ None
-  no_fault own named small = or_none (text_fault own spelled) (net_fault (variables_in spelled) (work_in spelled)) (printed_text a h own named small) ((λ i. net_fault (variables_same i) (printed_work a h i)) ∙ net_faults a.clock refl)
+  no_fault own named small = counted_first own spelled ∙ or_none (text_fault own spelled) (net_fault (variables_in spelled) (work_in spelled)) (printed_text a h own named small) ((λ i. net_fault (variables_same i) (printed_work a h i)) ∙ net_faults a.clock refl)
 
   -- and denotes a netlist of the same design
   pub denoted_named : IsNamed (denoted (spelled_module (design_of a)))
@@ -210,12 +198,3 @@ module _ (a : Named) (h : IsNamed a) where
 
   pub elaborated : (own : Bool) → IsElaborable own a → IsOutcome own (spelled_module (design_of a)) (Ok (denoted (spelled_module (design_of a))))
   elaborated own fits = (no_fault own fits.names fits.bits, refl, denoted_order fits.order)
-
-  -- nets are no more than bits
-  pub nets_few : length a.names ≤ bit_count a.variables
-  nets_few =
-      let few = kept_few a h a.clock in
-      let many = renumbered_named a (names a.clock) (rho a.clock) h (numbers a.clock refl) in
-      let counted = length_map (bit_name 0 a.variables) (bits a.clock) in
-      let same : length (driven (renamed (rho a.clock) a.netlist)) ≡ length (driven a.netlist) = ap length (driven_renamed (rho a.clock) a.netlist) ∙ length_map (rho a.clock) (driven a.netlist) in
-      omega (arith, few, many.names, counted, same, h.names)

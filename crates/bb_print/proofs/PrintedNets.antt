@@ -21,7 +21,8 @@ use Rattle.bb_drive.specs.Nets.{input_bits, output_bits, has_bit, nets, made_nam
 use Rattle.bb_print.proofs.PrintedBits.{number_of, one_number, bit_below}
 use Rattle.bb_print.proofs.PrintedPorts.{names_numbers, names_stand, names_but, names_apart, numbers_but, bits_have, bits_once}
 use Rattle.bb_print.proofs.PrintedWork.{net_number, clocked_by, flops_by, net_bit}
-use Rattle.bb_print.proofs.Renumbered.{one_place, times_same, flat_map_map}
+use Rattle.bb_netlist.proofs.Renamed.{ins_renamed}
+use Rattle.bb_print.proofs.Renumbered.{one_place, times_same}
 use Rattle.bb_print.proofs.NetsOf.{input_nets, out_nets, q_nets, output_nets, in_nets, d_nets}
 use Rattle.bb_print.proofs.Sieves.{found_none, or_left, or_none, or_parts}
 use Rattle.bb_print.proofs.NumberLists.{all_but, count_is, has_all, has_times, times_but, times_other}
@@ -149,7 +150,7 @@ module _ (a : Named) (h : IsNamed a) where
       go (f ∷ fs) = (inr (c, refl, refl), go fs)
 
   read_are : (o : Option BitName) → a.clock ≡ o → elab.bits_read a.variables (work_by o) ≡ map num a.netlist.outputs ++ (map num all_ins ++ (map num ds ++ map (λ (f : Clocked). f.clock) (flops_by a o)))
-  read_are o e = λ i. outputs_are i ++ (flat_map_map num a.netlist.gates i ++ (ds_are o e i ++ map (λ (f : Clocked). f.clock) (flops_by a o)))
+  read_are o e = λ i. outputs_are i ++ (ins_renamed num a.netlist.gates i ++ (ds_are o e i ++ map (λ (f : Clocked). f.clock) (flops_by a o)))
 
   read_numbers : (o : Option BitName) → a.clock ≡ o → AllByRecursion (IsNumber o) (elab.bits_read a.variables (work_by o))
   read_numbers o e =

@@ -24,7 +24,7 @@ use Rattle.bb_width.specs.Text.{text_fault, name_fault, part_fault}
 use Rattle.bb_fault.proofs.Keys.{same_name}
 use Rattle.std.specs.Str.{bytes_eq}
 use Rattle.bb_gates.specs.Making.{work_of}
-use Rattle.bb_elab.proofs.Counting.{module-fresh}
+use Rattle.bb_meaning.proofs.Counting.{module-fresh}
 use Rattle.bb_base.proofs.Lists.{all_join, all_map_back}
 use Rattle.bb_spell.specs.Canonical.{port_names}
 use Rattle.bb_canon_parse.specs.Printed.{declared, by_lines}

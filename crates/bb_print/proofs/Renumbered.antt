@@ -1,6 +1,6 @@
 -- A named netlist whose nets get other numbers is one again, of the same design and with the same order.
 use Rattle.std.proofs.Common.{◌≡◌, ◌≢◌, ℕ, ◌+◌, ◌<◌, ◌≤◌, zero, suc, List, [], ◌∷◌, ◌++◌, length, map, cond, Bool, true, false, nat_eq, nat_lt, All, AllPairs, get_or, refl, sym, ap, ◌∙◌, arith, subst}
-use Rattle.std.specs.Prelude.{flat_map, ◌&&◌}
+use Rattle.std.specs.Prelude.{◌&&◌}
 use Rattle.std.specs.List.{AllByRecursion, list_all, range_with_len}
 use Rattle.std.specs.List.Sorted.{IsPermutation}
 use Rattle.std.specs.Option.{option_map}
@@ -9,12 +9,13 @@ use Rattle.std.proofs.lemmas.List.{get_or_default}
 use Rattle.std.proofs.lemmas.List.Elements.{All-from_recursion, All-map, All-weaker}
 use Rattle.std.proofs.lemmas.List.Folds.{list_all-map}
 use Rattle.bb_base.specs.declared.variable.BitName.{BitName}
-use Rattle.bb_netlist.specs.Net.{Gate, Flop, Netlist, renamed, renamed_gate, renamed_flop, driven, reads, times, HasArity}
+use Rattle.bb_netlist.specs.Net.{Gate, Flop, renamed, renamed_gate, renamed_flop, driven, reads, times, HasArity}
 use Rattle.bb_base.specs.Operators.{IsArity}
 use Rattle.bb_base.specs.Variables.{Bit, IsBit, bit_of}
 use Rattle.bb_net.specs.Named.{Named, IsNamed, design_of, name_of_net, net_text}
 use Rattle.bb_netlist.specs.Order.{IsOrder, HasLevel, is_within, drivers, is_empty}
 use Rattle.bb_base.proofs.Lists.{all_join, all_map_back, map_join, map_twice, same_map_at, length_map, get_map}
+use Rattle.bb_netlist.proofs.Renamed.{driven_renamed, reads_renamed}
 use Rattle.bb_netlist.proofs.TimesLemmas.{times_head, times_past, length_once}
 use Rattle.bb_print.proofs.NetsOf.{driven_nets, read_nets, input_nets, output_nets, gate_outs, gate_ins, flop_qs, flop_ds}
 use Rattle.bb_print.proofs.Sieves.{item_at}
@@ -39,23 +40,6 @@ pub record Numbers (a : Named) (names : List BitName) (rho : ℕ → ℕ) : Type
 
 abbrev pub renumbered : Named → List BitName → (ℕ → ℕ) → Named
 renumbered a names rho = record { module_name = a.module_name; variables = a.variables; clock = a.clock; names = names; netlist = renamed rho a.netlist }
-
-pub flat_map_map : {X Y : Type 0} (f : X → Y) (xs : List (Gate X)) → flat_map (λ (g : Gate Y). g.ins) (map (renamed_gate f) xs) ≡ map f (flat_map (λ (g : Gate X). g.ins) xs)
-flat_map_map f [] = refl
-flat_map_map f (g ∷ gs) = ap (λ z. map f g.ins ++ z) (flat_map_map f gs) ∙ sym (map_join f g.ins (flat_map (λ (g : Gate _). g.ins) gs))
-
-pub driven_renamed : {X Y : Type 0} (f : X → Y) (n : Netlist X) → driven (renamed f n) ≡ map f (driven n)
-driven_renamed {X} {Y} f n =
-    let outs : map (λ (g : Gate Y). g.out) (map (renamed_gate f) n.gates) ≡ map f (map (λ (g : Gate X). g.out) n.gates) = map_twice (λ (g : Gate Y). g.out) (renamed_gate f) n.gates ∙ sym (map_twice f (λ (g : Gate X). g.out) n.gates) in
-    let qs : map (λ (p : Flop Y). p.q) (map (renamed_flop f) n.flops) ≡ map f (map (λ (p : Flop X). p.q) n.flops) = map_twice (λ (p : Flop Y). p.q) (renamed_flop f) n.flops ∙ sym (map_twice f (λ (p : Flop X). p.q) n.flops) in
-    sym (map_join f n.inputs (map (λ (g : Gate X). g.out) n.gates ++ map (λ (p : Flop X). p.q) n.flops)
-    ∙ ap (λ z. map f n.inputs ++ z) (map_join f (map (λ (g : Gate X). g.out) n.gates) (map (λ (p : Flop X). p.q) n.flops) ∙ (λ i. sym outs i ++ sym qs i)))
-
-pub reads_renamed : {X Y : Type 0} (f : X → Y) (n : Netlist X) → reads (renamed f n) ≡ map f (reads n)
-reads_renamed {X} {Y} f n =
-    let ds : map (λ (p : Flop Y). p.d) (map (renamed_flop f) n.flops) ≡ map f (map (λ (p : Flop X). p.d) n.flops) = map_twice (λ (p : Flop Y). p.d) (renamed_flop f) n.flops ∙ sym (map_twice f (λ (p : Flop X). p.d) n.flops) in
-    sym (map_join f n.outputs (flat_map (λ (g : Gate X). g.ins) n.gates ++ map (λ (p : Flop X). p.d) n.flops)
-    ∙ ap (λ z. map f n.outputs ++ z) (map_join f (flat_map (λ (g : Gate X). g.ins) n.gates) (map (λ (p : Flop X). p.d) n.flops) ∙ (λ i. sym (flat_map_map f n.gates) i ++ sym ds i)))
 
 -- nets under numbers that tell them apart
 module _ (size : ℕ) (rho : ℕ → ℕ) (apart : (m n : ℕ) → m < size → n < size → rho m ≡ rho n → m ≡ n) where

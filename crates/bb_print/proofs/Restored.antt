@@ -3,6 +3,7 @@ use Rattle.std.proofs.Common.{◌≡◌, inl, inr, ℕ, ◌≤◌, List, ◌++�
 use Rattle.std.proofs.lemmas.List.{append_cancel_left, length-append}
 use Rattle.bb_netlist.specs.Net.{Gate, Flop}
 use Rattle.bb_net.specs.Named.{Named, IsNamed, design_of}
+use Rattle.bb_net.proofs.CountLemmas.{nets_few}
 use Rattle.bb_base.proofs.Lists.{length_map}
 use Rattle.bb_netlist.proofs.CycleLemmas.{no_cycle}
 use Rattle.bb_netlist.proofs.WalkLemmas.{loop_cycles}
@@ -20,7 +21,7 @@ use Rattle.bb_parse.specs.Texts.{IsModuleOf}
 use Rattle.bb_print.specs.Elaborated.{IsElaborable, Restores}
 use Rattle.bb_spell.proofs.Texts.{design_text}
 use Rattle.bb_canon_parse.proofs.Derived.{text_denotes}
-use Rattle.bb_print.proofs.PrintedDenoted.{no_fault, elaborated, denoted_order, denoted_design, denoted_same, nets_few}
+use Rattle.bb_print.proofs.PrintedDenoted.{no_fault, elaborated, denoted_order, denoted_design, denoted_same}
 
 -- flip-flops are no more than nets, and these no more than bits
 few_flops : (a : Named) (h : IsNamed a) → length a.netlist.flops ≤ bit_count a.variables

@@ -1,5 +1,5 @@
 -- Facts on tests, and on lists that tests sift.
-use Rattle.std.proofs.Common.{◌≡◌, ◌≤◌, ℕ, suc, zero, List, [], ◌∷◌, length, map, cond, Option, Some, None, Bool, true, false, ◌||◌, ◌&&◌, slice_get, refl, ap, arith, subst}
+use Rattle.std.proofs.Common.{◌≡◌, ℕ, suc, zero, List, [], ◌∷◌, map, cond, Option, Some, None, Bool, true, false, ◌||◌, ◌&&◌, slice_get, refl, ap, subst}
 use Rattle.std.specs.Prelude.{filter, find, flat_map}
 use Rattle.std.specs.List.{AllByRecursion}
 use Rattle.std.specs.Option.{option_or}
@@ -94,14 +94,6 @@ filter_same p q P f (x ∷ xs) h = λ i. cond (f x h.0 i) (x ∷ filter_same p q
 pub all_true : {X : Type 0} (test : X → Bool) → ((x : X) → test x ≡ true) → (xs : List X) → AllByRecursion (λ x. test x ≡ true) xs
 all_true test f [] = tt
 all_true test f (x ∷ xs) = (f x, all_true test f xs)
-
-pub filter_few : {X : Type 0} (p : X → Bool) (xs : List X) → length (filter p xs) ≤ length xs
-filter_few p [] = omega arith
-filter_few p (x ∷ xs) = go (p x) (filter_few p xs)
-  where
-    go : (b : Bool) → length (filter p xs) ≤ length xs → length (cond b (x ∷ filter p xs) (filter p xs)) ≤ length (x ∷ xs)
-    go true less = omega arith
-    go false less = omega arith
 
 pub filter_keeps : {X : Type 0} (P : X → Type 0) (p : X → Bool) (xs : List X) → ((x : X) → p x ≡ true → P x) → AllByRecursion P (filter p xs)
 filter_keeps P p [] h = tt

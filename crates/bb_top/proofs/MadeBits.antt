@@ -8,13 +8,14 @@ use Rattle.bb_base.specs.Variables.{Entry, bit_count, limit_of}
 use Rattle.bb_parse.specs.declared.syntax.Module.{Module}
 use Rattle.bb_scope.specs.Variables.{variables}
 use Rattle.bb_fault.specs.Limits.{too_many}
-use Rattle.bb_width.specs.Parts.{bad_part, all_bits, too_many_nets}
-use Rattle.bb_gates.specs.Making.{work_of}
+use Rattle.bb_width.specs.Parts.{bad_part, too_many_bits}
 use Rattle.bb_drive.specs.Nets.{made_variable, made_names, made_count, is_variable}
 use Rattle.bb_base.specs.OwnNames.{made_name}
-use Rattle.bb_elab.specs.Outcome.{first_fault, net_fault, variables_in, work_in}
-use Rattle.bb_width.specs.Text.{name_fault, part_fault, text_fault}
+use Rattle.bb_elab.specs.Outcome.{first_fault, net_fault, too_many_made, variables_in, work_in}
+use Rattle.bb_width.specs.Text.{name_fault}
 use Rattle.bb_scope.specs.Cells.{unknown_cell}
+use Rattle.bb_scope.specs.Names.{reserved}
+use Rattle.bb_scope.specs.Declarations.{redeclared, bad_port}
 
 -- where neither of two faults is one, each is none
 none_first : {A : Type 0} (a b : Option A) → option_or a b ≡ None → a ≡ None
@@ -49,19 +50,20 @@ within own count none = by (nat_lt (limit_of own) count) refl
     by true e = absurd (grind (arith, e, none))
     by false e = grind (arith, nat_tests)
 
-pub few_bits :
-    (counted : (m : Module) → bad_part m ≡ None → (work_of (variables m) m.items).fresh ≡ all_bits m)
-    (own : Bool) (m : Module) → first_fault own m ≡ None → bit_count (variables_in m) ≤ limit_of own
-few_bits counted own m none =
+pub few_bits : (own : Bool) (m : Module) → first_fault own m ≡ None → bit_count (variables_in m) ≤ limit_of own
+few_bits own m none =
     let w = work_in m in
     let table = variables m in
-    let text = none_first (text_fault own m) (net_fault (variables_in m) w) none in
-    let part = none_second (name_fault own m) (part_fault own m) text in
-    let rest = none_second (unknown_cell m) (option_or (bad_part m) (too_many_nets own m)) part in
-    let bad = none_first (bad_part m) (too_many_nets own m) rest in
-    let fits = within own (all_bits m) (none_second (bad_part m) (too_many_nets own m) rest) in
+    let nets = net_fault (variables_in m) w in
+    let name = none_first (name_fault own m) (option_or (unknown_cell m) (option_or (bad_part m) (option_or (too_many_made own m) nets))) none in
+    let declared = none_second (reserved own m) (option_or (redeclared m) (option_or (bad_port m) (too_many_bits own m))) name in
+    let ports = none_second (redeclared m) (option_or (bad_port m) (too_many_bits own m)) declared in
+    let few = within own (bit_count table) (none_second (bad_port m) (too_many_bits own m) ports) in
+    let cells = none_second (name_fault own m) (option_or (unknown_cell m) (option_or (bad_part m) (option_or (too_many_made own m) nets))) none in
+    let parts = none_second (unknown_cell m) (option_or (bad_part m) (option_or (too_many_made own m) nets)) cells in
+    let fits = within own w.fresh (none_first (too_many_made own m) nets (none_second (bad_part m) (option_or (too_many_made own m) nets) parts)) in
     let names = made_names table (made_count table w) in
     let both = count_both table (map made_variable names) in
     let short = names_few table (made_count table w) in
     let made = count_made names in
-    omega (arith, both, short, made, fits, counted m bad)
+    omega (arith, both, short, made, fits, few)

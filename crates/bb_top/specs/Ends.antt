@@ -67,13 +67,13 @@ answer_line (Refused refusal) = refusal_line refusal
 answer_line Usage = usage_line
 
 -- the words and the files are as this answer says: only a call that is done changes a file
-abbrev pub IsAnswer : Answer → List (List ℕ) → (List ℕ → Told) → (List ℕ → Told) → Type 0
-IsAnswer Done words old new = IsDone words old new
-IsAnswer (Refused refusal) words old new = IsRefusal refusal words old × (new ≡ old)
-IsAnswer Usage words old new = (command_of words ≡ None) × (new ≡ old)
+abbrev pub IsAsAnswered : Answer → List (List ℕ) → (List ℕ → Told) → (List ℕ → Told) → Type 0
+IsAsAnswered Done words old new = IsDone words old new
+IsAsAnswered (Refused refusal) words old new = IsRefusal refusal words old × (new ≡ old)
+IsAsAnswered Usage words old new = (command_of words ≡ None) × (new ≡ old)
 
 -- the sink failed: all is as the answer says, whose line was put only in front
 pub record IsUnsaid (words : List (List ℕ)) (old new : List ℕ → Told) (told_old told_new : Option (List ℕ)) : Type 0 where
   pub answer : Answer
-  pub files : IsAnswer answer words old new
+  pub files : IsAsAnswered answer words old new
   pub line : AppendsFront told_old told_new (answer_line answer)

@@ -12,7 +12,7 @@ ghost use Rattle.bb_parse.specs.Texts.{HasLexFault, HasParseFault};
 ghost use Rattle.bb_elab.specs.Denotes.{ElaboratesTo};
 
 use bb_edge::Store;
-use bb_elab::{counted_nets_are_made, elaborate};
+use bb_elab::elaborate;
 use bb_fault::ElabFault;
 use bb_net::{Named, Order};
 use bb_read::{ReadFault, module_in, read_whole};
@@ -29,7 +29,6 @@ fn named_in(alloc: Global, text: &[u8], own: bool) -> Result<(Named, Order), Rea
     ensures no_read { IsErrOf result ReadFault.Read → ⊥ }
     ensures no_length { IsErrOf result ReadFault.TooLong → ⊥ }
 {
-    counted_nets_are_made();
     let syntax = module_in(alloc, text)?;
     match elaborate(alloc, &syntax, own) {
         Ok(found) => Ok(found),

@@ -2,7 +2,8 @@ use Rattle.std.proofs.Common.{◌≡◌, ap, subst, sym, ◌∙◌, length, map,
 use Rattle.bb_base.specs.Operators.{IsArity}
 use Rattle.bb_base.proofs.Lists.{length_map}
 use Rattle.bb_assemble.specs.Assembling.{number_for}
-use Rattle.bb_assemble.proofs.KeptGates.{nets_small, memory_alone}
+use Rattle.bb_assemble.proofs.KeptGates.{nets_small}
+use Rattle.bb_assemble.proofs.OnlyMemory.{gate_memory}
 use Rattle.bb_assemble.proofs.assembly.add_gate.Goals as goal
 
 pub gate-requires-clause-ins : goal.gate-requires-clause-ins
@@ -19,4 +20,4 @@ only_memory-requires c =
     let long : length c.deref.result.now ≡ length c.args.gate.now.ins = ap length nets ∙ length_map (number_for c.args.numbers.now) c.args.gate.now.ins in
     let arity : IsArity c.args.gate.now.op (length c.deref.result.now) = subst (IsArity c.args.gate.now.op) (sym long) c.requires.arity in
     let whole = c.in-Err.ensures.arity in
-    memory_alone c.in-Err.fault c.in-Err.ensures.only (λ gate e. ((whole gate).0 (ap Err e)).1 (search (rules, arity)))
+    gate_memory c.in-Err.fault c.in-Err.ensures.only (λ gate e. ((whole gate).0 (ap Err e)).1 (search (rules, arity)))

@@ -2,7 +2,7 @@ use Rattle.std.proofs.Common.{arith, ◌≡◌}
 use Rattle.std.specs.Prelude.{Some, slice_get}
 use Rattle.std.proofs.lemmas.Bool.Decides.{nat_tests}
 use Rattle.bb_base.specs.Variables.{Entry}
-use Rattle.bb_drive.proofs.BitNames.{name_next, bit_found}
+use Rattle.bb_drive.proofs.BitNames.{name_next, bit_found, count_next, count_end}
 use Rattle.bb_drive.proofs.nets.bit_text.Goals as goal
 
 pub returns-then-place-width : goal.returns-then-place-width
@@ -26,5 +26,10 @@ loop-index-preserved c =
     let next = name_next es i i c.loop-index.place v at in
     record {
       within = omega arith;
+      inside = omega (arith, c.loop-index.invariant.inside, count_next es i v at, c.range_width-width.ensures, c.if-place-width.false);
       same = grind (arith, nat_tests, next, c.range_width-width.ensures, c.loop-index.invariant.same, c.if-place-width.false);
     }
+
+pub unreachable-requires : goal.unreachable-requires
+unreachable-requires c =
+    omega (arith, c.loop-index.invariant.inside, c.loop-index-test.false, c.len-index-end.ensures.len, count_end c.args.vars.now.entries c.loop-index.index (omega (arith, c.loop-index-test.false, c.len-index-end.ensures.len)))

@@ -1,4 +1,4 @@
-use Rattle.std.proofs.Common.{sym, subst, All, ap, ◌∙◌}
+use Rattle.std.proofs.Common.{arith, sym, subst, All, ap, ◌∙◌}
 use Rattle.bb_base.specs.Variables.{IsEntry, bit_count}
 use Rattle.std.proofs.lemmas.List.Elements.{All-from_recursion}
 use Rattle.bb_netlist.specs.Net.{HasArity}
@@ -9,6 +9,7 @@ use Rattle.bb_elab.proofs.NameLaws.{bits_are_all}
 use Rattle.bb_elab.proofs.Arities.{module-fits}
 use Rattle.bb_assemble.specs.Assembling.{ArePortsFirst}
 use Rattle.bb_elab.proofs.PortLaws.{fine_text, all_entries, ports_stand_first}
+use Rattle.bb_meaning.proofs.Counting.{module-fresh}
 use Rattle.bb_elab.proofs.WithinLaws.{work_within}
 use Rattle.bb_elab.proofs.outcome.named_in.Goals as goal
 
@@ -30,3 +31,13 @@ pub wired-requires-clause-arities : goal.wired-requires-clause-arities
 wired-requires-clause-arities c =
     subst (λ (w : Work). All HasArity w.gates) (sym c.in_ok-vars.ensures.work)
     (All-from_recursion HasArity (work_in c.args.module.now).gates (module-fits c.args.module.now c.requires.sound (fine_text c.args.own c.args.module.now c.requires.fine).parts))
+
+pub wired-requires-clause-room : goal.wired-requires-clause-room
+wired-requires-clause-room c =
+    let fine = fine_text c.args.own c.args.module.now c.requires.fine in
+    omega (arith, ap (λ (w : Work). w.fresh) c.in_ok-vars.ensures.work, module-fresh c.args.module.now fine.parts, fine.bits)
+
+pub made_in-requires-clause-room : goal.made_in-requires-clause-room
+made_in-requires-clause-room c =
+    let fine = fine_text c.args.own c.args.module.now c.requires.fine in
+    omega (arith, module-fresh c.args.module.now fine.parts, fine.bits)

@@ -1,5 +1,0 @@
-use Rattle.bb_elab.proofs.Counting.{module-fresh}
-use Rattle.bb_elab.proofs.laws.counted_nets_are_made.Goals as goal
-
-pub returns : goal.returns
-returns c = λ m h. module-fresh m h
