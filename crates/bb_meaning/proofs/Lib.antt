@@ -1,0 +1,17 @@
+pub mod Operators
+pub mod Expressions
+pub mod Assigns
+pub mod Instances
+pub mod Counting
+pub mod Mentioned
+pub mod Pins
+pub mod MadeBits
+pub mod StepValues
+pub mod StepBits
+pub mod RefBits
+pub mod AssignBits
+pub mod PrimBits
+pub mod CellBits
+pub mod ItemBits
+pub mod StatementBits
+pub mod Rows

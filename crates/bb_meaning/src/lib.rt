@@ -1,0 +1,12 @@
+//! What the text of a module says holds of the bits of what its items make: laws alone.
+//!
+//! - `specs/Values.antt` has the value of an expression, a list of bits, by the operators of the language; `specs/Statements.antt` what
+//!   equations, gates and cells say of bits.
+//! - In every cycle in which the gates that are made meet their equations, all statements of the text hold, and the nets of an
+//!   expression have the bits of its value.
+//! - The nets that are counted before any gate is made are those that are then made.
+#![tactic(auto)]
+
+mod laws;
+
+pub use laws::{counted_nets_are_made, expressions_mean, statements_hold};
