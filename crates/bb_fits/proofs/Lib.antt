@@ -1,0 +1,6 @@
+pub mod FirstWrong
+pub mod Items
+pub mod OnNets
+pub mod Driven
+pub mod Listings
+pub mod Stages

@@ -1,0 +1,12 @@
+pub mod ChainLemmas
+pub mod NetLemmas
+pub mod StartLemmas
+pub mod LayoutLemmas
+pub mod LineLemmas
+pub mod ObserverLemmas
+pub mod PlaceLemmas
+pub mod ClashLemmas
+pub mod ConflictLemmas
+pub mod IndependentLemmas
+pub mod CodingLemmas
+pub mod FaultLemmas

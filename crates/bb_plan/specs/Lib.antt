@@ -1,0 +1,5 @@
+pub mod Answered
+pub mod Chain
+pub mod Layout
+pub mod Clashes
+pub mod Coded
