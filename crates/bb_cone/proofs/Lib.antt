@@ -3,3 +3,4 @@ pub mod PlaceLemmas
 pub mod EntryLemmas
 pub mod StepLemmas
 pub mod TableLemmas
+pub mod DrivenLemmas

@@ -14,6 +14,7 @@ use Rattle.bb_segment.specs.Support.{stop_at, AreLeaves}
 use Rattle.bb_segment.specs.Walks.{HasMore}
 use Rattle.bb_segment.specs.Cuts.{StandsAt, is_stop_with, HasSupport, IsTooWide, IsCutRather, IsNextCut, AreTurns, AreCuts}
 use Rattle.bb_cone.specs.Cutting.{table_entry, IsUnion, is_rather, IsWidest, AreReadersAt, IsWalked, IsCutting, queue_front, weight}
+use Rattle.bb_base.proofs.BooleanLemmas.{or_true, or_false}
 use Rattle.bb_base.proofs.Contained.{here, there, either, none_in}
 use Rattle.bb_segment.proofs.WalkLemmas.{pairs_push}
 use Rattle.bb_segment.proofs.SetLemmas.{true_member, counts_distinct, sorted_up}
@@ -169,11 +170,7 @@ module _ (gates : List (Gate ℕ)) (order : List ℕ) (width : ℕ) (stops : Lis
   -- after a cut
   module _ (net : ℕ) (queue : List ℕ) (input : Contains g.ins net) (no_stop : stop_at stops net ≡ false) (next : IsNextCut gates order width turns net) (adds : HasMore rest (table_entry readers net) queue) where
     any_push : (xs : List ℕ) (n : ℕ) → list_any (nat_eq n) (xs ++ net ∷ []) ≡ (list_any (nat_eq n) xs || (n == net))
-    any_push [] n = by (n == net)
-      where
-        by : (b : Bool) → (b || false) ≡ b
-        by true = refl
-        by false = refl
+    any_push [] n = or_false (n == net)
     any_push (x ∷ xs) n = by (nat_eq n x) (any_push xs n)
       where
         by : (b : Bool) → list_any (nat_eq n) (xs ++ net ∷ []) ≡ (list_any (nat_eq n) xs || (n == net)) → (b || list_any (nat_eq n) (xs ++ net ∷ [])) ≡ ((b || list_any (nat_eq n) xs) || (n == net))
@@ -183,14 +180,6 @@ module _ (gates : List (Gate ℕ)) (order : List ℕ) (width : ℕ) (stops : Lis
     or_on : (a b d : Bool) → (a || (b || d)) ≡ ((a || b) || d)
     or_on true b d = refl
     or_on false b d = refl
-
-    or_true : (a : Bool) → (a || true) ≡ true
-    or_true true = refl
-    or_true false = refl
-
-    or_false : (a : Bool) → (a || false) ≡ a
-    or_false true = refl
-    or_false false = refl
 
     now_stop : (n : ℕ) → is_stop_with gates (turns ++ net ∷ []) n ≡ (is_stop_with gates turns n || (n == net))
     now_stop n = ap (λ b. is_free gates n || b) (any_push turns n) ∙ or_on (is_free gates n) (list_any (nat_eq n) turns) (n == net)

@@ -4,9 +4,11 @@ use Rattle.bb_netlist.specs.Net.{Gate}
 use Rattle.bb_netlist.specs.Levels.{AreGates}
 use Rattle.bb_netlist.specs.Order.{IsOrder}
 use Rattle.bb_netlist.proofs.GateLemmas.{gates_fit}
+use Rattle.bb_segment.proofs.ShortLemmas.{short_supports}
 use Rattle.bb_cone.specs.Cutting.{IsCutting}
 use Rattle.bb_cone.proofs.PlaceLemmas.{fit_of}
 use Rattle.bb_cone.proofs.StepLemmas.{cuts_are}
+use Rattle.bb_cone.proofs.DrivenLemmas.{cuts_driven}
 use Rattle.bb_cone.proofs.choice.cuts.Goals as goal
 
 pub check_widths-requires : goal.check_widths-requires
@@ -36,3 +38,9 @@ returns-clause-cuts c =
     cuts_are c.args.netlist.now.gates c.args.order.now c.args.width c.run.new.state.stops.items c.run.new.state.table.items c.run.new.state.turns.items c.in_ok-ascending_nets.field-0.items
     (subst (λ k. AreGates k c.args.netlist.now.gates) (sym long) fit) c.requires.order cutting
     (subst (λ (ts : List ℕ). IsPermutation ts c.in_ok-ascending_nets.field-0.items) c.deref_mut.ensures.value c.in_ok-ascending_nets.ensures.moved) c.in_ok-ascending_nets.ensures.sorted
+
+pub returns-clause-driven : goal.returns-clause-driven
+returns-clause-driven c = cuts_driven c.args.netlist.now.gates c.args.order.now c.args.width c.in_ok-ascending_nets.field-0.items (returns-clause-cuts c)
+
+pub returns-clause-short : goal.returns-clause-short
+returns-clause-short c = λ g leaves h are. short_supports c.args.netlist.now.gates c.args.order.now c.args.width c.in_ok-ascending_nets.field-0.items g leaves (returns-clause-cuts c) h are

@@ -1,0 +1,10 @@
+pub mod SameCells
+pub mod CellCounts
+pub mod CellRules
+pub mod AlikeLemmas
+pub mod DraftedLemmas
+pub mod ScheduleLemmas
+pub mod SessionRules
+pub mod StopLemmas
+pub mod OwnLineLemmas
+pub mod ConflictRules

@@ -1,0 +1,16 @@
+pub mod SeenLemmas
+pub mod FitLemmas
+pub mod MetLemmas
+pub mod PlaceLemmas
+pub mod RunLemmas
+pub mod NaturalLemmas
+pub mod SessionLemmas
+pub mod LineLemmas
+pub mod DraftLemmas
+pub mod NarrowLemmas
+pub mod ApartLemmas
+pub mod OnceLemmas
+pub mod PureLemmas
+pub mod FitsLemmas
+pub mod CellLemmas
+pub mod GroupedLemmas

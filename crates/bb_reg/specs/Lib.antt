@@ -1,0 +1,4 @@
+pub mod Draft
+pub mod Chosen
+pub mod Fitting
+pub mod LineTables
