@@ -1,0 +1,3 @@
+pub mod Arranged
+pub mod Choice
+pub mod Coding

@@ -1,0 +1,35 @@
+//! The registers that are chosen for a netlist: its cuts, the cells that it needs with them, and these in registers.
+
+ghost use Rattle.std.specs.Prelude.{◌≡◌, ◌≤◌, ℕ, length, IfOk, IsErrOf};
+ghost use Rattle.bb_netlist.specs.Net.{IsNetlist, driven};
+ghost use Rattle.bb_netlist.specs.Order.{IsOrder};
+ghost use Rattle.bb_segment.specs.Cuts.{IsFirstWide};
+ghost use Rattle.bb_choose.specs.Arranged.{AreInRange, IsArranged};
+ghost use Rattle.bb_choose.specs.Coding.{IsReady};
+
+use bb_cone::{CutFault, cuts};
+use bb_netlist::{Netlist, Order};
+use bb_reg::{Grouped, cells, group};
+use bb_words::Settings;
+use std::alloc::Global;
+
+/// The registers for a netlist, with the leaves of each cell's line.
+pub(crate) fn arranged(
+    alloc: Global,
+    netlist: &Netlist,
+    order: &Order,
+    settings: &Settings,
+) -> Result<Grouped, CutFault>
+    requires netlist { IsNetlist netlist.now }
+    requires order { IsOrder netlist.now.gates order.now }
+    requires few { length (driven netlist.now) ≤ 2097152 }
+    requires settings { AreInRange settings.now }
+    ensures arranged { IfOk result (IsArranged netlist.now order.now settings.now) }
+    ensures ready { IfOk result (IsReady (length (driven netlist.now))) }
+    ensures wide { (gate inputs width : ℕ) → IsErrOf result (CutFault.GateTooWide gate inputs width) → IsFirstWide netlist.now.gates width gate inputs }
+    ensures width { (gate inputs width : ℕ) → IsErrOf result (CutFault.GateTooWide gate inputs width) → width ≡ settings.now.width }
+{
+    let cut = cuts(alloc, netlist, order, settings.width)?;
+    let draft = cells(alloc, netlist, order, &cut)?;
+    Ok(group(alloc, &draft, settings.register)?)
+}

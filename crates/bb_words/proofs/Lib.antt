@@ -1,0 +1,5 @@
+pub mod Numbers
+pub mod Pieces
+pub mod FirstPieces
+pub mod Reading
+pub mod Commands

@@ -1,0 +1,4 @@
+pub mod Options
+pub mod Commands
+pub mod Calls
+pub mod Parts
