@@ -1,0 +1,9 @@
+pub mod ArityLemmas
+pub mod ChainLemmas
+pub mod CountLemmas
+pub mod Names
+pub mod NetLemmas
+pub mod RowLemmas
+pub mod StandLemmas
+pub mod SymbolNames
+pub mod TurnLemmas

@@ -1,0 +1,4 @@
+pub mod CellLines
+pub mod Parts
+pub mod Forward
+pub mod Ranked

@@ -1,0 +1,7 @@
+pub mod Cells
+pub mod Written
+pub mod Statements
+pub mod Restricted
+pub mod Falling
+pub mod Trace
+pub mod Modes
