@@ -1,0 +1,22 @@
+//! Laws about what a self-test adds, as contracts of functions without a body.
+
+ghost use Rattle.std.specs.Prelude.{◌≡◌, ◌≢◌, AllPairs, Contains};
+ghost use Rattle.std.specs.List.{AllByRecursion};
+ghost use Rattle.bb_netlist.specs.Net.{driven, reads};
+ghost use Rattle.bb_net.specs.Named.{Named, IsNamed};
+ghost use Rattle.bb_rules.specs.Plan.{PlanValue};
+ghost use Rattle.bb_rules.specs.Valid.{IsValidPlan};
+ghost use Rattle.bb_ctl.specs.declared.wire.Wire.{Wire};
+ghost use Rattle.bb_ctl.specs.Wires.{IsAdded};
+ghost use Rattle.bb_written.specs.Written.{written_netlist, inner_wires};
+
+/// The added wires of a valid plan are added nets, and no two are equal.
+pub fn inner_wires_differ()
+    ensures added { (a : Named) (p : PlanValue) → IsValidPlan a.netlist p → AllByRecursion IsAdded (inner_wires a.netlist p) }
+    ensures apart { (a : Named) (p : PlanValue) → IsValidPlan a.netlist p → AllPairs (λ (v : Wire) (w : Wire). v ≢ w) (inner_wires a.netlist p) }
+{}
+
+/// What the written netlist of a valid plan reads is driven.
+pub fn reads_are_driven()
+    ensures { (a : Named) (p : PlanValue) (w : Wire) → IsNamed a → IsValidPlan a.netlist p → Contains (reads (written_netlist a.netlist p)) w → Contains (driven (written_netlist a.netlist p)) w }
+{}

@@ -1,0 +1,16 @@
+pub mod OnlyMemory
+pub mod Ascending
+pub mod Standing
+pub mod Adding
+pub mod Clocks
+pub mod Bits
+pub mod OwnPorts
+pub mod OwnWires
+pub mod Scalars
+pub mod TableLemmas
+pub mod FlopLemmas
+pub mod KeptNets
+pub mod LaidLemmas
+pub mod NameLemmas
+pub mod Apart
+pub mod Stand

@@ -1,0 +1,6 @@
+use Rattle.std.proofs.Common.{◌≡◌, ◌++◌, drop}
+use Rattle.bb_gf2.specs.Bits.{picked}
+use Rattle.bb_lay.proofs.row.picked.Given as goal
+
+abbrev pub invariant-wires : goal.invariant-wires
+invariant-wires l = l.taken.items ++ picked l.rest (drop l.wire-index l.wires) ≡ picked l.mask l.wires

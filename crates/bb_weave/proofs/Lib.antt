@@ -1,0 +1,10 @@
+mod Filled
+mod Found
+mod CanFill
+mod FillLemmas
+mod WovenLemmas
+mod PortSites
+mod Sited
+mod DriversApart
+mod BitsDriven
+mod DrivenOnce
