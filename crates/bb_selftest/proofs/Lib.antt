@@ -1,0 +1,9 @@
+pub mod Traces
+pub mod CellBits
+pub mod PlanFacts
+pub mod Clauses
+pub mod ClauseLaws
+pub mod Signing
+pub mod Exhausting
+pub mod Promise
+pub mod Existing

@@ -1,0 +1,14 @@
+pub mod ControlLines
+pub mod Phases
+pub mod RegisterSteps
+pub mod Steps
+pub mod Induction
+pub mod Unloading
+pub mod RunLaws
+pub mod TracedRuns
+pub mod LineLaws
+pub mod ReadCodes
+pub mod SignatureLaws
+pub mod MeetLaws
+pub mod FullLaws
+pub mod OutLaws
