@@ -1,0 +1,13 @@
+pub mod CertificateLemmas
+pub mod CertificateReading
+pub mod CleanLemmas
+pub mod FieldLemmas
+pub mod FormLemmas
+pub mod ItemLemmas
+pub mod Printed
+pub mod Readings
+pub mod ScheduleLemmas
+pub mod ScheduleReading
+pub mod SignatureLemmas
+pub mod SignatureReading
+pub mod Told

@@ -1,0 +1,13 @@
+use Rattle.bb_forms.specs.CertificateText.{AreCertificateLines}
+use Rattle.bb_forms.proofs.FormLemmas.{one_bad}
+use Rattle.bb_forms.proofs.CertificateReading.{one_text, no_bad}
+use Rattle.bb_forms.proofs.laws.one_certificate.Goals as goal
+
+pub returns-clause-one : goal.returns-clause-one
+returns-clause-one c = one_text
+
+pub returns-clause-all : goal.returns-clause-all
+returns-clause-all c = no_bad
+
+pub returns-clause-line : goal.returns-clause-line
+returns-clause-line c = one_bad AreCertificateLines

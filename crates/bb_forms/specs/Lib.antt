@@ -1,0 +1,10 @@
+pub mod CertificateStages
+pub mod CertificateText
+pub mod Fields
+pub mod Forms
+pub mod Listing
+pub mod Reading
+pub mod ScheduleStages
+pub mod ScheduleText
+pub mod SignatureStages
+pub mod SignatureText

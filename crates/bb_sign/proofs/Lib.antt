@@ -1,0 +1,9 @@
+pub mod ZipLemmas
+pub mod ColumnLemmas
+pub mod GateLemmas
+pub mod StartLemmas
+pub mod LineLemmas
+pub mod WordLemmas
+pub mod CompactorLemmas
+pub mod GrowthLemmas
+pub mod SessionLemmas
