@@ -57,9 +57,9 @@ fn module_of(alloc: Global, text: &str) -> Result<Module, ParseFault> {
 fn outcome(alloc: Global, text: &str, own: bool) -> Result<String, AllocError> {
     match module_of(alloc, text) {
         Err(_) => format!(in alloc; "no module"),
-        Ok(parsed) => match text_fault(alloc, &parsed, own)? {
-            None => format!(in alloc; "fine"),
-            Some(fault) => fault_text(alloc, &fault),
+        Ok(parsed) => match text_fault(alloc, &parsed, own) {
+            Ok(()) => format!(in alloc; "fine"),
+            Err(fault) => fault_text(alloc, &fault),
         },
     }
 }

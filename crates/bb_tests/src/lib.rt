@@ -1,4 +1,4 @@
-//! Tests of all but the reading of texts: worked values, and calls on their happy path and on each refusal.
+//! Tests of canonical texts, of outside calls and of whole commands: calls on their happy path and on each refusal.
 //!
 //! A crate of its own, so that the others are proved once, without their tests. It uses public calls alone.
 #![tactic(auto)]
@@ -10,14 +10,4 @@ mod calls;
 #[cfg(test)]
 mod canonical;
 #[cfg(test)]
-mod columns;
-#[cfg(test)]
-mod cones;
-#[cfg(test)]
-mod cycles;
-#[cfg(test)]
 mod outside;
-#[cfg(test)]
-mod registers;
-#[cfg(test)]
-mod vectors;

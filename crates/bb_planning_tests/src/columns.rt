@@ -35,7 +35,7 @@ fn segments_of(
     Ok(segments)
 }
 
-fn segment_of(rt: &impl Abort, sources: u32, list: &[u32]) -> ArrayVec<u32, 16>
+pub(crate) fn segment_of(rt: &impl Abort, sources: u32, list: &[u32]) -> ArrayVec<u32, 16>
     ensures { IsSegment sources result.items }
 {
     let mut segment = ArrayVec::new();

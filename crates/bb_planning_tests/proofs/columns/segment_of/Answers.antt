@@ -2,12 +2,9 @@ use Rattle.std.proofs.Common.{◌≡◌, ◌<◌, ℕ, List, [], ◌∷◌, ◌+
 use Rattle.std.specs.List.{All, AllByRecursion, IsDistinct}
 use Rattle.std.proofs.lemmas.List.Elements.{recursion_from_All}
 use Rattle.std.proofs.lemmas.Map.Keys.{IsDistinct-cons, IsDistinct-head, IsDistinct-tail}
+use Rattle.bb_base.proofs.Lists.{all_join}
 use Rattle.bb_code.specs.Segments.{IsSegment}
-use Rattle.bb_tests.proofs.columns.segment_of.Goals as goal
-
-all_push : (P : ℕ → Type 0) (xs : List ℕ) (y : ℕ) → AllByRecursion P xs → P y → AllByRecursion P (xs ++ y ∷ [])
-all_push P [] y h k = (k, tt)
-all_push P (x ∷ xs) y h k = (h.0, all_push P xs y h.1 k)
+use Rattle.bb_planning_tests.proofs.columns.segment_of.Goals as goal
 
 none : IsDistinct eqb []
 unfolding IsDistinct
@@ -16,11 +13,11 @@ none = tt
 -- a list of distinct sources with one that it doesn't have
 distinct_push : (xs : List ℕ) (y : ℕ) → IsDistinct eqb xs → AllByRecursion (λ x. eqb x y ≡ false) xs → IsDistinct eqb (xs ++ y ∷ [])
 distinct_push [] y h new = IsDistinct-cons eqb y [] tt none
-distinct_push (x ∷ xs) y h new = IsDistinct-cons eqb x (xs ++ y ∷ []) (all_push (λ z. eqb x z ≡ false) xs y (IsDistinct-head eqb x xs h) new.0) (distinct_push xs y (IsDistinct-tail eqb x xs h) new.1)
+distinct_push (x ∷ xs) y h new = IsDistinct-cons eqb x (xs ++ y ∷ []) (all_join (λ z. eqb x z ≡ false) xs (y ∷ []) (IsDistinct-head eqb x xs h) (new.0, tt)) (distinct_push xs y (IsDistinct-tail eqb x xs h) new.1)
 
 segment_push : (sources : ℕ) (segment : List ℕ) (y : ℕ) → IsSegment sources segment → y < sources → All (λ x. eqb x y ≡ false) segment → IsSegment sources (segment ++ y ∷ [])
 segment_push sources segment y h lt new = record {
-  below = all_push (λ source. source < sources) segment y h.below lt;
+  below = all_join (λ source. source < sources) segment (y ∷ []) h.below (lt, tt);
   distinct = distinct_push segment y h.distinct (recursion_from_All (λ x. eqb x y ≡ false) segment new);
 }
 

@@ -1,14 +1,12 @@
 // Rows of supports and cuts, by hand. Nets are numbered in the order in which a text declares them; wires are declared in the order of their
 // first use.
 
-ghost use Rattle.std.specs.Prelude.{IfOk, IfSome, ◌≡◌, length};
+ghost use Rattle.std.specs.Prelude.{IfOk, ◌≡◌, length};
 ghost use Rattle.bb_netlist.specs.Net.{driven};
-ghost use Rattle.bb_netlist.specs.Order.{IsOrder};
 
-use bb_canon::read_canonical;
+use crate::netlists::{TOGGLE, read};
 use bb_cone::{CutFault, Start, Walk, Wide, cuts, support};
-use bb_net::Named;
-use bb_netlist::{Driver, NetId, Netlist, Order, find_order};
+use bb_netlist::{Driver, NetId, Netlist};
 use std::alloc::{AllocError, Global};
 
 /// Gates by level, not by number: `t` is wide before `m` is, though `m` drives the first gate.
@@ -27,26 +25,9 @@ const ONE: &str =
 const SEVENTEEN: &str =
     "module row (a, b, c, d, e, f, g, h, i, j, k, l, m, n, o, p, q, y);\ninput a;\ninput b;\ninput c;\ninput d;\ninput e;\ninput f;\ninput g;\ninput h;\ninput i;\ninput j;\ninput k;\ninput l;\ninput m;\ninput n;\ninput o;\ninput p;\ninput q;\noutput y;\nor (y, a, b, c, d, e, f, g, h, i, j, k, l, m, n, o, p, q);\nendmodule\n";
 
-/// A flip-flop that reads itself.
-const TOGGLE: &str =
-    "module row (ck, q);\ninput ck;\noutput q;\nwire d;\nnot (d, q);\ndff bt_f0 (ck, q, d);\nendmodule\n";
-
 /// The parity of 32 inputs by gates of four, and of two at the end.
 const PARITY: &str =
     "module row (x, y);\ninput [31:0] x;\noutput y;\nwire [7:0] u;\nwire [1:0] w;\nxor (u[7], x[31], x[30], x[29], x[28]);\nxor (u[6], x[27], x[26], x[25], x[24]);\nxor (u[5], x[23], x[22], x[21], x[20]);\nxor (u[4], x[19], x[18], x[17], x[16]);\nxor (u[3], x[15], x[14], x[13], x[12]);\nxor (u[2], x[11], x[10], x[9], x[8]);\nxor (u[1], x[7], x[6], x[5], x[4]);\nxor (u[0], x[3], x[2], x[1], x[0]);\nxor (w[1], u[7], u[6], u[5], u[4]);\nxor (w[0], u[3], u[2], u[1], u[0]);\nxor (y, w[1], w[0]);\nendmodule\n";
-
-/// The netlist of a text, and the order of its gates.
-fn read(alloc: Global, text: &str) -> Option<(Named, Order)>
-    ensures { IfSome result (λ found. IsOrder found.0.netlist.gates found.1) }
-{
-    let Ok(named) = read_canonical(alloc, text.as_bytes()) else {
-        return None;
-    };
-    match find_order(alloc, named.netlist()) {
-        Ok(order) => Some((named, order)),
-        Err(_) => None,
-    }
-}
 
 /// The numbers of nets.
 fn numbers(alloc: Global, nets: &[NetId]) -> Result<Vec<u32>, AllocError> {

@@ -1,41 +1,12 @@
 // Rows of cycles, by hand. Nets are numbered in the order in which a text declares them, the clock left out.
 
-ghost use Rattle.std.specs.Prelude.{IfSome};
-ghost use Rattle.bb_netlist.specs.Order.{IsOrder};
-
-use bb_canon::read_canonical;
+use crate::netlists::{HALF, SWAP, TOGGLE, read};
 use bb_eqn::{cycle, settle};
-use bb_net::Named;
-use bb_netlist::{Order, find_order};
 use std::alloc::Global;
-
-const HALF: &str =
-    "module half (a, b, s, c);\ninput a;\ninput b;\noutput s;\noutput c;\nxor (s, a, b);\nand (c, a, b);\nendmodule\n";
 
 /// The gates stand against their order: `y` reads `m`, and `m` reads `t`.
 const AGAINST: &str =
     "module row (a, b, c, y);\ninput a;\ninput b;\ninput c;\noutput y;\nwire m;\nwire t;\nbuf (y, m);\nnor (m, c, t);\nnand (t, a, b);\nendmodule\n";
-
-/// A flip-flop that takes its complement.
-const TOGGLE: &str =
-    "module row (ck, q);\ninput ck;\noutput q;\nwire d;\nnot (d, q);\ndff bt_f0 (ck, q, d);\nendmodule\n";
-
-/// Two flip-flops that take each other's bit.
-const SWAP: &str =
-    "module row (ck, p, q);\ninput ck;\noutput p;\noutput q;\ndff bt_f0 (ck, p, q);\ndff bt_f1 (ck, q, p);\nendmodule\n";
-
-/// The netlist of a text, and the order of its gates.
-fn read(alloc: Global, text: &str) -> Option<(Named, Order)>
-    ensures { IfSome result (λ found. IsOrder found.0.netlist.gates found.1) }
-{
-    let Ok(named) = read_canonical(alloc, text.as_bytes()) else {
-        return None;
-    };
-    match find_order(alloc, named.netlist()) {
-        Ok(order) => Some((named, order)),
-        Err(_) => None,
-    }
-}
 
 /// The bits of all nets, and none where lengths differ or memory lacks.
 fn settled(alloc: Global, text: &str, inputs: &[bool], state: &[bool]) -> Option<Vec<bool>> {
