@@ -20,7 +20,7 @@ use Rattle.bb_net.specs.Named.{Named, lookup_of}
 use Rattle.bb_net.specs.Building.{find_of, with_net, with_gates}
 use Rattle.bb_ctl.specs.declared.wire.Wire.{Wire}
 use Rattle.bb_ctl.specs.Wires.{symbol_name}
-use Rattle.bb_ctl.specs.Numbering.{kept_of, first_net, net_by, net_for, net_at, number_or_zero, wires_in, HasWire, HasDistinctNets}
+use Rattle.bb_ctl.specs.Numbering.{kept_of, found_net, net_by, net_for, net_at, number_or_zero, wires_in, HasWire, HasDistinctNets}
 
 -- the first bit of a variable that stands
 width_some : (r : Option (ℕ × ℕ)) → 0 < range_width r
@@ -86,8 +86,8 @@ pub kept_net : (b : Named) (kept : List ℕ) (w : Wire) (net : ℕ) → Some net
 kept_net b kept w net e h = ap (net_by b kept (symbol_name w)) e ∙ h.found
 
 -- the bit of a name's net, whose variable was found
-pub called : (b : Named) (name : List ℕ) (variable net : ℕ) → Some variable ≡ lookup_of name b → first_net b (lookup_of name b) ≡ Some net → find_of (bit_at variable 0) b ≡ Some net
-called b name variable net e h = ap (first_net b) e ∙ h
+pub called : (b : Named) (name : List ℕ) (variable net : ℕ) → Some variable ≡ lookup_of name b → found_net b (lookup_of name b) ≡ Some net → find_of (bit_at variable 0) b ≡ Some net
+called b name variable net e h = ap (found_net b) e ∙ h
 
 -- a builder refuses no bit that has a net, and no gate of the right number of inputs
 pub only_memory_of_net : (f : NetFault) → IsNetCallFault f → ((count limit : ℕ) → f ≡ TooMany count limit → ⊥) → f ≡ NoMemory

@@ -6,3 +6,4 @@ pub mod Numbers
 pub mod Turns
 pub mod Numbering
 pub mod ControlNets
+pub mod OwnNames

@@ -16,13 +16,13 @@ kept_of (Kept net) = Some net
 kept_of w = None
 
 -- the net of the first bit of the variable of this number
-abbrev pub first_net : Named → Option ℕ → Option ℕ
-first_net b None = None
-first_net b (Some variable) = find_of (bit_at variable 0) b
+abbrev pub found_net : Named → Option ℕ → Option ℕ
+found_net b None = None
+found_net b (Some variable) = find_of (bit_at variable 0) b
 
 -- the net of an added symbol has its name; that of one of the original's nets is as `kept` says
 abbrev pub net_by : Named → List ℕ → List ℕ → Option ℕ → Option ℕ
-net_by b kept name None = first_net b (lookup_of name b)
+net_by b kept name None = found_net b (lookup_of name b)
 net_by b kept name (Some net) = slice_get kept net
 
 -- the net of a symbol, where `kept` has the net of each of the original's nets

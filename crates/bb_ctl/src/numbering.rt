@@ -6,7 +6,7 @@ ghost use Rattle.bb_netlist.specs.Net.{renamed_gate, HasArity};
 ghost use Rattle.bb_net.specs.Named.{lookup_of};
 ghost use Rattle.bb_net.specs.Building.{with_gates};
 ghost use Rattle.bb_ctl.specs.Wires.{symbol_name};
-ghost use Rattle.bb_ctl.specs.Numbering.{kept_of, first_net, net_at, wires_in, HasWire, HasDistinctNets};
+ghost use Rattle.bb_ctl.specs.Numbering.{kept_of, found_net, net_at, wires_in, HasWire, HasDistinctNets};
 
 use crate::row::Row;
 use crate::wire::Wire;
@@ -41,8 +41,8 @@ fn out_of_memory(fault: NetFault) -> AllocError
 /// The net of the variable with this name.
 fn net_called(builder: &mut Builder, name: &Name) -> Result<NetId, AllocError>
     requires distinct { HasDistinctNets builder.old }
-    requires stands { (net : ℕ) × (first_net builder.old (lookup_of name.now builder.old) ≡ Some net) }
-    ensures net { IfOk result (λ net. first_net builder.old (lookup_of name.now builder.old) ≡ Some net) }
+    requires stands { (net : ℕ) × (found_net builder.old (lookup_of name.now builder.old) ≡ Some net) }
+    ensures net { IfOk result (λ net. found_net builder.old (lookup_of name.now builder.old) ≡ Some net) }
     ensures below { IfOk result (λ net. net < length builder.old.names) }
     ensures same { builder.new ≡ builder.old }
 {

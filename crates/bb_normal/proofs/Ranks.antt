@@ -27,7 +27,7 @@ use Rattle.bb_ctl.specs.Wires.{symbol_name}
 use Rattle.bb_written.specs.Written.{wire_site, written_netlist, written, scalar_site}
 use Rattle.bb_written.specs.Falling.{Falls, wire_rank, IsSettledFirst, HasNoLoop}
 use Rattle.bb_normal.specs.Mirrors.{Mirrors}
-use Rattle.bb_normal.specs.OwnNames.{IsOwnName, HasOwnNames}
+use Rattle.bb_ctl.specs.OwnNames.{IsOwnName, HasOwnNames}
 use Rattle.bb_ctl.specs.Wires.{IsAdded}
 use Rattle.bb_ctl.proofs.Names.{names_differ, added_reserved, never_made}
 use Rattle.bb_normal.proofs.Numbered.{IsNumbered, RowNumbered}

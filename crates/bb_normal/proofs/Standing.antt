@@ -16,7 +16,7 @@ use Rattle.bb_rules.specs.declared.kind.Kind.{Kind}
 use Rattle.bb_rules.specs.declared.kind.Kind.TheVariants.{Input, State, Split, Cut, Watch, Output}
 use Rattle.bb_rules.proofs.NetLemmas.{input_net_within, out_within, q_within}
 use Rattle.bb_written.specs.Written.{wire_site, written_netlist}
-use Rattle.bb_normal.specs.OwnNames.{HasOwnNames}
+use Rattle.bb_ctl.specs.OwnNames.{HasOwnNames}
 use Rattle.bb_normal.proofs.Few.{are_few}
 use Rattle.bb_normal.proofs.Numbered.{IsNumbered, StandsInside, all_numbered}
 use Rattle.bb_normal.proofs.Ranks.{Side, IsKept, IsNew, side, site_apart, new_sites_differ}

@@ -17,7 +17,7 @@ use Rattle.bb_written.specs.Restricted.{KeepsFlops, RunsAsOriginal}
 use Rattle.bb_written.specs.Written.{written}
 use Rattle.bb_normal.specs.Mirrors.{Mirrors}
 use Rattle.bb_normal.specs.Normal.{Normal, RunsFromAll}
-use Rattle.bb_normal.specs.OwnNames.{HasOwnNames}
+use Rattle.bb_ctl.specs.OwnNames.{HasOwnNames}
 use Rattle.bb_normal.proofs.Standing.{all_of}
 use Rattle.bb_normal.proofs.Flops.{keeps_flops}
 use Rattle.bb_normal.proofs.Outside.{keeps_bits, inputs_are, outputs_are}

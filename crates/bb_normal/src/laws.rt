@@ -13,7 +13,7 @@ ghost use Rattle.bb_rules.specs.Rules.{Holds, Served};
 ghost use Rattle.bb_rules.specs.Valid.{IsValidPlan};
 ghost use Rattle.bb_normal.specs.Mirrors.{Mirrors};
 ghost use Rattle.bb_normal.specs.Normal.{KeepsBits, Normal};
-ghost use Rattle.bb_normal.specs.OwnNames.{HasOwnNames};
+ghost use Rattle.bb_ctl.specs.OwnNames.{HasOwnNames};
 
 /// A netlist that is the written one is one by its drivers.
 pub fn mirrors_itself()

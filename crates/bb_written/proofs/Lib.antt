@@ -2,3 +2,9 @@ pub mod CellLines
 pub mod Parts
 pub mod Forward
 pub mod Ranked
+pub mod Rising
+pub mod Reached
+pub mod Sizes
+pub mod Few
+pub mod Inner
+pub mod Driven

@@ -1,6 +1,5 @@
 pub mod Cells
 pub mod Written
-pub mod Statements
 pub mod Restricted
 pub mod Falling
 pub mod Trace

@@ -1,5 +1,5 @@
-use Rattle.bb_added.proofs.Inner.{inner_added, inner_pairs}
-use Rattle.bb_added.proofs.laws.inner_wires_differ.Goals as goal
+use Rattle.bb_written.proofs.Inner.{inner_added, inner_pairs}
+use Rattle.bb_written.proofs.laws.inner_wires_differ.Goals as goal
 
 pub returns-clause-added : goal.returns-clause-added
 returns-clause-added c = λ a p valid. inner_added a.netlist p valid

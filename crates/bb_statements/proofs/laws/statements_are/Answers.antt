@@ -1,6 +1,6 @@
 use Rattle.std.proofs.Common.{refl}
 use Rattle.std.specs.Fmt.{digits}
-use Rattle.bb_written.proofs.laws.statements_are.Goals as goal
+use Rattle.bb_statements.proofs.laws.statements_are.Goals as goal
 
 pub returns-clause-half : goal.returns-clause-half
 unfolding digits

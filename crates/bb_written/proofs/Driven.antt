@@ -21,9 +21,9 @@ use Rattle.bb_ctl.specs.declared.wire.Wire.TheVariants.{Kept, Test, Init, So, Do
 use Rattle.bb_ctl.specs.Reads.{q_by, q_of, qs_from}
 use Rattle.bb_written.specs.Cells.{flop, word_flops, ring_flops, cell_flops, flops}
 use Rattle.bb_written.specs.Written.{test_gates, written_gate, written_netlist}
-use Rattle.bb_added.proofs.Rising.{out_of, q_in}
-use Rattle.bb_added.proofs.Reached.{HoldsOfDriven, RowHolds, cells_are, so, done, rows_hold, written_reads, ds_hold, d_in}
-use Rattle.bb_added.proofs.Sizes.{ahead_long}
+use Rattle.bb_written.proofs.Rising.{out_of, q_in}
+use Rattle.bb_written.proofs.Reached.{HoldsOfDriven, RowHolds, cells_are, so, done, rows_hold, written_reads, ds_hold, d_in}
+use Rattle.bb_written.proofs.Sizes.{ahead_long}
 
 -- the d of a flip-flop is a net
 pub d_inside : (a : Netlist ℕ) → IsNetlist a → (net : ℕ) → net < length (driven a) → d_of a.flops net < length (driven a)

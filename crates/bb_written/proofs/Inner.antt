@@ -11,9 +11,9 @@ use Rattle.bb_ctl.specs.declared.wire.Wire.{Wire}
 use Rattle.bb_ctl.specs.Wires.{IsAdded}
 use Rattle.bb_written.specs.Cells.{flops}
 use Rattle.bb_written.specs.Written.{test_gates, inner_wires, is_inner}
-use Rattle.bb_added.proofs.Few.{AreFew, are_few}
-use Rattle.bb_added.proofs.Rising.{Rises, out_of, q_in, rises_join, rises_filter, rises_added, rises_distinct, outs_rise, qs_rise}
-use Rattle.bb_added.proofs.Sizes.{ahead_long, cells_counted, inner_long}
+use Rattle.bb_written.proofs.Few.{AreFew, are_few}
+use Rattle.bb_written.proofs.Rising.{Rises, out_of, q_in, rises_join, rises_filter, rises_added, rises_distinct, outs_rise, qs_rise}
+use Rattle.bb_written.proofs.Sizes.{ahead_long, cells_counted, inner_long}
 
 module _ (a : Netlist ℕ) (p : PlanValue) (valid : IsValidPlan a p) where
   few : AreFew p

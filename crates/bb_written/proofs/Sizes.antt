@@ -16,7 +16,7 @@ use Rattle.bb_ctl.specs.Controller.{word_from, register_word, word_ahead, word_r
 use Rattle.bb_ctl.specs.Registers.{rows_of_register, registers_from}
 use Rattle.bb_written.specs.Cells.{cell_rows, rows_of_cells, all_cells_from, word_flops, ring_flops, cell_flops, flop, flops}
 use Rattle.bb_written.specs.Written.{test_gates, inner_wires, is_inner}
-use Rattle.bb_added.proofs.Rising.{out_of, q_in, cell_outs, outs_of_cell, cells_in}
+use Rattle.bb_written.proofs.Rising.{out_of, q_in, cell_outs, outs_of_cell, cells_in}
 
 -- a filter leaves no more
 pub filter_short : {X : Type 0} (test : X → Bool) (xs : List X) → length (filter test xs) ≤ length xs

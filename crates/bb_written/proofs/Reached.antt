@@ -19,7 +19,7 @@ use Rattle.bb_ctl.specs.Controller.{gate_row, word_from, register_word, word_ahe
 use Rattle.bb_ctl.specs.Registers.{rows_of_register, registers_from}
 use Rattle.bb_written.specs.Cells.{when, xor_row, next_terms, cell_rows, rows_of_cells, all_cells_from, flop, word_flops, ring_flops, cell_flops, flops}
 use Rattle.bb_written.specs.Written.{test_gates}
-use Rattle.bb_added.proofs.Rising.{out_of, q_in, cell_outs, outs_of_cell, low_out, so_out}
+use Rattle.bb_written.proofs.Rising.{out_of, q_in, cell_outs, outs_of_cell, low_out, so_out}
 
 picked_all : {T : Type 0} (F : T → Type 0) (m : ℕ) (xs : List T) → AllByRecursion F xs → AllByRecursion F (picked m xs)
 picked_all F m [] h = tt
