@@ -28,7 +28,7 @@ use Rattle.bb_testrun.specs.SignatureSoFar.{lines_until}
 use Rattle.bb_testrun.proofs.LineLaws.{lines_compute}
 use Rattle.bb_testrun.proofs.ReadCodes.{read_code}
 use Rattle.bb_testrun.proofs.SignatureLaws.{signatures_agree}
-use Rattle.bb_walks.specs.WrittenLines.{IsObserver, q_site, q_sites_from, read_site, line_site, sited_gate}
+use Rattle.bb_selftest.specs.WrittenLines.{IsObserver, q_site, q_sites_from, read_site, line_site, sited_gate}
 use Rattle.bb_selftest.specs.TestRun.{run_cycle, unload_cycle}
 use Rattle.bb_selftest.specs.TestTrace.{IsTracedTest, wire_bits}
 use Rattle.bb_selftest.specs.Signed.{IsRegisterAt, lines_at, signature_until}

@@ -16,13 +16,13 @@ use Rattle.bb_rules.specs.Signatures.{code_at}
 use Rattle.bb_rules.proofs.CellLemmas.{cell_at}
 use Rattle.bb_rules.proofs.CodeLemmas.{vectors_come}
 use Rattle.bb_rules.proofs.StopLemmas.{free_stops}
-use Rattle.bb_walks.specs.WrittenLines.{IsObserver, read_site, line_site, sited_gate}
-use Rattle.bb_walks.specs.Bounded.{IsBoundedLine}
+use Rattle.bb_selftest.specs.WrittenLines.{IsObserver, read_site, line_site, sited_gate}
+use Rattle.bb_selftest.specs.Bounded.{IsBoundedLine}
 use Rattle.bb_selftest.specs.TestRun.{IsTestRunBy, run_cycle}
 use Rattle.bb_selftest.specs.TestTrace.{IsWrittenNetlist}
 use Rattle.bb_selftest.specs.Exhausted.{ComesAt, IsExhausted}
 use Rattle.bb_selftest.specs.Tested.{ShowsChange}
-use Rattle.bb_walks.proofs.Steps.{of_map}
+use Rattle.bb_selftest.proofs.Steps.{of_map}
 use Rattle.bb_selftest.proofs.PlanFacts.{some_session}
 use Rattle.bb_selftest.proofs.ClauseLaws.{lines, codes}
 use Rattle.bb_selftest.proofs.Signing.{leaves_only, no_change, no_change_fits}

@@ -1,3 +1,9 @@
+pub mod Steps
+pub mod Renamed
+pub mod Standing
+pub mod Agreement
+pub mod AtSites
+pub mod Functions
 pub mod Traces
 pub mod CellBits
 pub mod PlanFacts

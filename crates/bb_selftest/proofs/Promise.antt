@@ -9,9 +9,9 @@ use Rattle.bb_rules.specs.Signatures.{AreSignatures}
 use Rattle.bb_written.proofs.Forward.{forward}
 use Rattle.bb_written.proofs.Ranked.{no_loop}
 use Rattle.bb_normal.proofs.Whole.{normal}
-use Rattle.bb_walks.specs.WrittenLines.{IsObserver}
-use Rattle.bb_walks.specs.Bounded.{IsBoundedLine}
-use Rattle.bb_walks.proofs.AtSites.{bounded, covers}
+use Rattle.bb_selftest.specs.WrittenLines.{IsObserver}
+use Rattle.bb_selftest.specs.Bounded.{IsBoundedLine}
+use Rattle.bb_selftest.proofs.AtSites.{bounded, covers}
 use Rattle.bb_selftest.specs.TestTrace.{IsWrittenNetlist}
 use Rattle.bb_selftest.specs.Tested.{IsTestedBy}
 use Rattle.bb_selftest.specs.SelfTest.{IsSelfTest}

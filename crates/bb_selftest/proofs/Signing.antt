@@ -30,7 +30,7 @@ use Rattle.bb_ctl.specs.Reads.{qs_from}
 use Rattle.bb_ctl.proofs.ChainLemmas.{qs_long}
 use Rattle.bb_written.specs.Written.{wire_site}
 use Rattle.bb_testrun.specs.SignatureSoFar.{lines_until}
-use Rattle.bb_walks.specs.WrittenLines.{IsObserver, q_site, q_sites_from, read_site, line_site}
+use Rattle.bb_selftest.specs.WrittenLines.{IsObserver, q_site, q_sites_from, read_site, line_site}
 use Rattle.bb_normal.specs.Normal.{site_so}
 use Rattle.bb_selftest.specs.TestRun.{IsTestRun, run_cycle, unload_cycle}
 use Rattle.bb_selftest.specs.TestTrace.{IsWrittenNetlist, IsTracedTest}

@@ -21,8 +21,8 @@ use Rattle.bb_normal.proofs.Standing.{written_sites_differ}
 use Rattle.bb_normal.specs.Normal.{site_test, site_init}
 use Rattle.bb_testrun.specs.Traced.{on_wires}
 use Rattle.bb_testrun.proofs.TracedRuns.{added_same}
-use Rattle.bb_walks.proofs.Steps.{of_map}
-use Rattle.bb_walks.specs.WrittenLines.{sited_gate}
+use Rattle.bb_selftest.proofs.Steps.{of_map}
+use Rattle.bb_selftest.specs.WrittenLines.{sited_gate}
 use Rattle.bb_selftest.specs.TestRun.{IsTested, IsTestRunBy}
 use Rattle.bb_selftest.specs.TestTrace.{IsWrittenNetlist, IsTracedTest, wire_bits}
 

@@ -6,7 +6,7 @@ use Rattle.bb_net.specs.Named.{Named}
 use Rattle.bb_net.specs.Sites.{Site}
 use Rattle.bb_rules.specs.declared.plan.Cell.{Cell}
 use Rattle.bb_rules.specs.Plan.{PlanValue, compacts}
-use Rattle.bb_walks.specs.WrittenLines.{IsWrittenLeaf}
+use Rattle.bb_selftest.specs.WrittenLines.{IsWrittenLeaf}
 use Rattle.bb_selftest.specs.TestRun.{IsTestRunBy, run_cycle}
 
 -- in run cycle t of session s of each test run the line's leaves have these bits

@@ -1,3 +1,9 @@
+pub mod Renaming
+pub mod Segments
+pub mod WrittenLines
+pub mod WrittenSegments
+pub mod Covers
+pub mod Bounded
 pub mod TestRun
 pub mod TestTrace
 pub mod Exhausted

@@ -11,7 +11,7 @@ use Rattle.bb_rules.specs.declared.plan.Cell.{Cell}
 use Rattle.bb_rules.specs.Kinds.{is_source}
 use Rattle.bb_rules.specs.Plan.{PlanValue, compacts, IsCell}
 use Rattle.bb_rules.specs.Rules.{HasNoConflict}
-use Rattle.bb_walks.specs.WrittenLines.{q_site}
+use Rattle.bb_selftest.specs.WrittenLines.{q_site}
 use Rattle.bb_selftest.specs.TestRun.{IsTestRunBy, run_cycle}
 
 pub record KeepsRoles (gives : Gate Site → List Bool → Bool) (a b : Named) (p : PlanValue) : Type 0 where

@@ -8,9 +8,9 @@ use Rattle.bb_net.specs.Sites.{sited}
 use Rattle.bb_rules.specs.declared.plan.Cell.{Cell}
 use Rattle.bb_rules.specs.Plan.{PlanValue}
 use Rattle.bb_normal.specs.Normal.{Normal}
-use Rattle.bb_walks.specs.WrittenLines.{IsObserver}
-use Rattle.bb_walks.specs.Covers.{Covers}
-use Rattle.bb_walks.specs.Bounded.{IsBoundedLine}
+use Rattle.bb_selftest.specs.WrittenLines.{IsObserver}
+use Rattle.bb_selftest.specs.Covers.{Covers}
+use Rattle.bb_selftest.specs.Bounded.{IsBoundedLine}
 use Rattle.bb_selftest.specs.Exhausted.{IsExhausted}
 use Rattle.bb_selftest.specs.Roles.{KeepsRoles}
 use Rattle.bb_selftest.specs.Signed.{Signs}

@@ -9,7 +9,7 @@ use Rattle.bb_gf2.specs.Bits.{from_bits}
 use Rattle.bb_creg.specs.Signature.{signature}
 use Rattle.bb_rules.specs.Plan.{PlanValue, RegisterValue, compacts}
 use Rattle.bb_testrun.specs.SignatureSoFar.{lines_until}
-use Rattle.bb_walks.specs.WrittenLines.{q_sites_from, line_site}
+use Rattle.bb_selftest.specs.WrittenLines.{q_sites_from, line_site}
 use Rattle.bb_selftest.specs.TestRun.{IsTestRunBy, IsTestRun, run_cycle, unload_cycle}
 
 -- the bits of a register's lines in run cycle t of session s

@@ -10,9 +10,9 @@ use Rattle.bb_ctl.specs.declared.wire.Wire.{Wire}
 use Rattle.bb_written.specs.Trace.{IsTestTrace}
 use Rattle.bb_written.specs.Written.{wire_site, written}
 use Rattle.bb_normal.specs.Mirrors.{Mirrors}
-use Rattle.bb_normal.specs.OwnNames.{HasOwnNames}
+use Rattle.bb_ctl.specs.OwnNames.{HasOwnNames}
 use Rattle.bb_testrun.specs.Traced.{KeptMeet}
-use Rattle.bb_walks.specs.WrittenLines.{sited_gate}
+use Rattle.bb_selftest.specs.WrittenLines.{sited_gate}
 
 -- b has the drivers of the written netlist of a by p, which is a valid plan
 pub record IsWrittenNetlist (a b : Named) (p : PlanValue) : Type 0 where

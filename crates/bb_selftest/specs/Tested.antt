@@ -13,7 +13,7 @@ use Rattle.bb_rules.specs.Plan.{PlanValue, chain, compacts, IsCell}
 use Rattle.bb_rules.specs.Lines.{IsStart, IsLeafOf, is_stop}
 use Rattle.bb_rules.specs.Signatures.{code_at}
 use Rattle.bb_normal.specs.Normal.{site_so}
-use Rattle.bb_walks.specs.WrittenLines.{IsObserver, q_site, read_site, line_site, sited_gate}
+use Rattle.bb_selftest.specs.WrittenLines.{IsObserver, q_site, read_site, line_site, sited_gate}
 use Rattle.bb_selftest.specs.TestRun.{IsTestRunBy, IsTestRun, run_cycle, unload_cycle}
 use Rattle.bb_selftest.specs.Exhausted.{IsExhausted}
 use Rattle.bb_selftest.specs.Roles.{KeepsRoles}

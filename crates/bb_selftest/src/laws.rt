@@ -10,7 +10,7 @@ ghost use Rattle.bb_segment.specs.Change.{Change, IsChangeOf, gives_by};
 ghost use Rattle.bb_rules.specs.declared.plan.Cell.{Cell};
 ghost use Rattle.bb_rules.specs.Plan.{PlanValue};
 ghost use Rattle.bb_rules.specs.Signatures.{AreSignatures};
-ghost use Rattle.bb_walks.specs.WrittenLines.{IsObserver};
+ghost use Rattle.bb_selftest.specs.WrittenLines.{IsObserver};
 ghost use Rattle.bb_selftest.specs.TestRun.{IsTestRunBy, inputs_in_test};
 ghost use Rattle.bb_selftest.specs.TestTrace.{IsWrittenNetlist, IsTracedTest};
 ghost use Rattle.bb_selftest.specs.Tested.{IsTestedBy, ShowsChange};

@@ -13,7 +13,12 @@
 #![tactic(auto)]
 
 mod laws;
+mod walk_laws;
 
 pub use laws::{
     changes_show, mirrors_are_self_tests, mirrors_are_tested, test_runs_are_traces, test_runs_exist,
+};
+pub use walk_laws::{
+    covers_every_gate, functions_agree, lines_are_bounded, lines_have_segments, reads_differ,
+    segments_agree, sites_tell_nets_apart, walks_renamed,
 };

@@ -16,13 +16,13 @@ ghost use Rattle.bb_ctl.specs.declared.wire.Wire.{Wire};
 ghost use Rattle.bb_ctl.specs.Reads.{read};
 ghost use Rattle.bb_written.specs.Written.{wire_site, written_netlist, written};
 ghost use Rattle.bb_normal.specs.Mirrors.{Mirrors};
-ghost use Rattle.bb_normal.specs.OwnNames.{HasOwnNames};
-ghost use Rattle.bb_walks.specs.Renaming.{IsRenaming};
-ghost use Rattle.bb_walks.specs.Segments.{StopsAtReads, HasSameSegment};
-ghost use Rattle.bb_walks.specs.WrittenLines.{IsObserver, read_site, line_site, is_read_site, sited_gate};
-ghost use Rattle.bb_walks.specs.WrittenSegments.{HasSegment};
-ghost use Rattle.bb_walks.specs.Covers.{Covers};
-ghost use Rattle.bb_walks.specs.Bounded.{IsBoundedLine};
+ghost use Rattle.bb_ctl.specs.OwnNames.{HasOwnNames};
+ghost use Rattle.bb_selftest.specs.Renaming.{IsRenaming};
+ghost use Rattle.bb_selftest.specs.Segments.{StopsAtReads, HasSameSegment};
+ghost use Rattle.bb_selftest.specs.WrittenLines.{IsObserver, read_site, line_site, is_read_site, sited_gate};
+ghost use Rattle.bb_selftest.specs.WrittenSegments.{HasSegment};
+ghost use Rattle.bb_selftest.specs.Covers.{Covers};
+ghost use Rattle.bb_selftest.specs.Bounded.{IsBoundedLine};
 
 /// Under names that tell nets apart, walks through the same gates are the same: each path is one, each path from a net that stands is
 /// that of one, and the nets that are reached, the leaves and the gates that are passed are those of the walk from the same start.

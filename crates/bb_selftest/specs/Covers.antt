@@ -8,7 +8,7 @@ use Rattle.bb_segment.specs.Paths.{AtNet, LiesBehind}
 use Rattle.bb_rules.specs.declared.plan.Cell.{Cell}
 use Rattle.bb_rules.specs.Covered.{IsUsed}
 use Rattle.bb_rules.specs.Plan.{PlanValue}
-use Rattle.bb_walks.specs.WrittenLines.{IsObserver, line_site, is_read_site, sited_gate}
+use Rattle.bb_selftest.specs.WrittenLines.{IsObserver, line_site, is_read_site, sited_gate}
 
 -- the net of the same name is driven by the same operator, from the reads of the same inputs, and an observer's walk passes that gate
 pub record LiesInSegment (a b : Named) (p : PlanValue) (g : Gate ℕ) : Type 0 where

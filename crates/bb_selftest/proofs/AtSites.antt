@@ -23,18 +23,18 @@ use Rattle.bb_ctl.specs.declared.wire.Wire.{Wire}
 use Rattle.bb_ctl.specs.Reads.{read, line}
 use Rattle.bb_written.specs.Written.{wire_site, written_gate, written_netlist, written}
 use Rattle.bb_normal.specs.Mirrors.{Mirrors}
-use Rattle.bb_normal.specs.OwnNames.{HasOwnNames}
+use Rattle.bb_ctl.specs.OwnNames.{HasOwnNames}
 use Rattle.bb_normal.proofs.Standing.{written_sites_differ}
-use Rattle.bb_walks.specs.Renaming.{IsRenaming}
-use Rattle.bb_walks.specs.Segments.{IsNetOf, IsSourceRead, StopsAtReads, HasSameSegment}
-use Rattle.bb_walks.specs.WrittenLines.{IsObserver, read_site, line_site, same_site, is_read_site, sited_gate}
-use Rattle.bb_walks.specs.WrittenSegments.{HasSegment}
-use Rattle.bb_walks.specs.Covers.{Covers}
-use Rattle.bb_walks.specs.Bounded.{IsBoundedLine}
-use Rattle.bb_walks.proofs.Steps.{IsReachedImage, of_map}
-use Rattle.bb_walks.proofs.Renamed.{passed_under_names, leaves_under_names, reached_under_names, gate_under_names}
-use Rattle.bb_walks.proofs.Standing.{out_has, in_has, gate_there, read_has, line_has}
-use Rattle.bb_walks.proofs.Agreement.{segments_agree}
+use Rattle.bb_selftest.specs.Renaming.{IsRenaming}
+use Rattle.bb_selftest.specs.Segments.{IsNetOf, IsSourceRead, StopsAtReads, HasSameSegment}
+use Rattle.bb_selftest.specs.WrittenLines.{IsObserver, read_site, line_site, same_site, is_read_site, sited_gate}
+use Rattle.bb_selftest.specs.WrittenSegments.{HasSegment}
+use Rattle.bb_selftest.specs.Covers.{Covers}
+use Rattle.bb_selftest.specs.Bounded.{IsBoundedLine}
+use Rattle.bb_selftest.proofs.Steps.{IsReachedImage, of_map}
+use Rattle.bb_selftest.proofs.Renamed.{passed_under_names, leaves_under_names, reached_under_names, gate_under_names}
+use Rattle.bb_selftest.proofs.Standing.{out_has, in_has, gate_there, read_has, line_has}
+use Rattle.bb_selftest.proofs.Agreement.{segments_agree}
 
 -- a site among what is read of source cells
 read_found : (a : Named) (p : PlanValue) (s : Site) (cells : List Cell) → list_any (same_site s) (map (λ c. read_site a p c.net) (filter (λ c. is_source c.kind) cells)) ≡ true

@@ -20,13 +20,13 @@ use Rattle.bb_ctl.specs.declared.wire.Wire.TheVariants.{Kept}
 use Rattle.bb_ctl.specs.Reads.{read}
 use Rattle.bb_written.specs.Written.{wire_site, written_gate, written_netlist, written}
 use Rattle.bb_normal.specs.Mirrors.{Mirrors}
-use Rattle.bb_normal.specs.OwnNames.{HasOwnNames}
+use Rattle.bb_ctl.specs.OwnNames.{HasOwnNames}
 use Rattle.bb_normal.proofs.Standing.{written_sites_differ}
-use Rattle.bb_walks.specs.WrittenLines.{read_site, line_site, same_site, is_read_site, sited_gate}
-use Rattle.bb_walks.specs.WrittenSegments.{HasSegment}
-use Rattle.bb_walks.proofs.Standing.{ReadsBehind, ReadsItself, read_cases, one_read, gate_there, out_has, read_has}
-use Rattle.bb_walks.proofs.Agreement.{IsLine, AtRead, AtGate, line_is, plain, stop_same, passes_out}
-use Rattle.bb_walks.proofs.AtSites.{stops_here, reads_stop, has_segment, sited_stands}
+use Rattle.bb_selftest.specs.WrittenLines.{read_site, line_site, same_site, is_read_site, sited_gate}
+use Rattle.bb_selftest.specs.WrittenSegments.{HasSegment}
+use Rattle.bb_selftest.proofs.Standing.{ReadsBehind, ReadsItself, read_cases, one_read, gate_there, out_has, read_has}
+use Rattle.bb_selftest.proofs.Agreement.{IsLine, AtRead, AtGate, line_is, plain, stop_same, passes_out}
+use Rattle.bb_selftest.proofs.AtSites.{stops_here, reads_stop, has_segment, sited_stands}
 
 lies_in : (gates : List (Gate ℕ)) (stop : ℕ → Bool) (start : Start ℕ) (g : Gate ℕ) → LiesBehind gates stop start g → LiesIn gates stop start g
 lies_in gates stop (AtNet net) g h = h

@@ -7,7 +7,7 @@ use Rattle.bb_segment.specs.Paths.{Start, AtNet, IsLeaf, LiesBehind, LiesIn}
 use Rattle.bb_rules.specs.declared.plan.Cell.{Cell}
 use Rattle.bb_rules.specs.Lines.{is_stop}
 use Rattle.bb_rules.specs.Plan.{PlanValue}
-use Rattle.bb_walks.specs.WrittenLines.{read_site, line_site, is_read_site, sited_gate, IsWrittenLeaf}
+use Rattle.bb_selftest.specs.WrittenLines.{read_site, line_site, is_read_site, sited_gate, IsWrittenLeaf}
 
 -- the cell's line, whose walk begins here in the original, has the original's segment
 pub record HasSegment (a b : Named) (p : PlanValue) (c : Cell) (start : Start ℕ) : Type 0 where

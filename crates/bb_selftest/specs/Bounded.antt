@@ -7,7 +7,7 @@ use Rattle.bb_segment.specs.Paths.{IsReached}
 use Rattle.bb_rules.specs.declared.plan.Cell.{Cell}
 use Rattle.bb_rules.specs.Plan.{PlanValue}
 use Rattle.bb_rules.specs.Rules.{AreLeavesOf}
-use Rattle.bb_walks.specs.WrittenLines.{read_site, line_site, is_read_site, IsWrittenLeaf}
+use Rattle.bb_selftest.specs.WrittenLines.{read_site, line_site, is_read_site, IsWrittenLeaf}
 
 pub record IsBoundedLine (a b : Named) (p : PlanValue) (c : Cell) : Type 0 where
   -- the walk ends at reads, or at gates without inputs: each net on it is a read or a gate's

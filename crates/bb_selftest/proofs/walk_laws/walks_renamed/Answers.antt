@@ -1,5 +1,5 @@
-use Rattle.bb_walks.proofs.Renamed.{path_under_names, image_under_names, reached_same, leaves_under_names, passed_under_names}
-use Rattle.bb_walks.proofs.laws.walks_renamed.Goals as goal
+use Rattle.bb_selftest.proofs.Renamed.{path_under_names, image_under_names, reached_same, leaves_under_names, passed_under_names}
+use Rattle.bb_selftest.proofs.walk_laws.walks_renamed.Goals as goal
 
 pub returns-clause-path : goal.returns-clause-path
 returns-clause-path c = path_under_names

@@ -25,7 +25,7 @@ use Rattle.bb_ctl.specs.Controller.{gate_row, word_ahead}
 use Rattle.bb_ctl.specs.Registers.{control_rows}
 use Rattle.bb_written.specs.Cells.{when, xor_row, next_terms, cell_rows, rows_of_cells, all_cells_from, flop, word_flops, ring_flops, cell_flops, flops}
 use Rattle.bb_written.specs.Written.{test_gates, written_gate, written_netlist}
-use Rattle.bb_walks.specs.Segments.{IsNetOf}
+use Rattle.bb_selftest.specs.Segments.{IsNetOf}
 
 -- nets of any netlist ---------------------------------------------------------
 

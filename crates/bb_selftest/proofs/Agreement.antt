@@ -24,9 +24,9 @@ use Rattle.bb_ctl.specs.Reads.{read, line, line_by}
 use Rattle.bb_written.specs.Written.{test_gates, written_gate, written_netlist}
 use Rattle.bb_testrun.specs.Traced.{on_wires}
 use Rattle.bb_testrun.proofs.TracedRuns.{added_same}
-use Rattle.bb_walks.specs.Segments.{IsSourceRead, StopsAtReads, HasSameSegment}
-use Rattle.bb_walks.proofs.Steps.{StepsAgree, IsReachedImage, of_map, first_reached, leaves_agree, other_passes, first_passes}
-use Rattle.bb_walks.proofs.Standing.{ReadsBehind, ReadsItself, read_cases, one_read, gate_there, out_has, read_has}
+use Rattle.bb_selftest.specs.Segments.{IsSourceRead, StopsAtReads, HasSameSegment}
+use Rattle.bb_selftest.proofs.Steps.{StepsAgree, IsReachedImage, of_map, first_reached, leaves_agree, other_passes, first_passes}
+use Rattle.bb_selftest.proofs.Standing.{ReadsBehind, ReadsItself, read_cases, one_read, gate_there, out_has, read_has}
 
 same_bits : (x y : Bool) → (x ≡ true → y ≡ true) → (y ≡ true → x ≡ true) → x ≡ y
 same_bits true y h k = sym (h refl)

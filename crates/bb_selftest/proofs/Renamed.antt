@@ -4,8 +4,8 @@ use Rattle.std.specs.List.{AllByRecursion}
 use Rattle.bb_base.proofs.Contained.{contains_map}
 use Rattle.bb_netlist.specs.Net.{Gate, renamed_gate}
 use Rattle.bb_segment.specs.Paths.{Start, AtNet, Behind, starts, renamed_start, IsPathBack, IsReached, IsLeaf, LiesBehind}
-use Rattle.bb_walks.specs.Renaming.{IsRenaming}
-use Rattle.bb_walks.proofs.Steps.{StepsAgree, IsImage, IsReachedImage, of_map, path_forth, path_back, first_reached, other_reached, leaves_agree, other_passes, first_passes}
+use Rattle.bb_selftest.specs.Renaming.{IsRenaming}
+use Rattle.bb_selftest.proofs.Steps.{StepsAgree, IsImage, IsReachedImage, of_map, path_forth, path_back, first_reached, other_reached, leaves_agree, other_passes, first_passes}
 
 module _ {M N : Type 0} (name : M → N) (nets : List M) (gates : List (Gate M)) (stop : M → Bool) (others : List (Gate N)) (stops : N → Bool) (r : IsRenaming name nets gates stop others stops) where
   agree : StepsAgree (Contains nets) name gates stop others stops

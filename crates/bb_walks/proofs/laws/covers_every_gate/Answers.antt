@@ -1,5 +1,0 @@
-use Rattle.bb_walks.proofs.AtSites.{covers}
-use Rattle.bb_walks.proofs.laws.covers_every_gate.Goals as goal
-
-pub returns : goal.returns
-returns c = λ a b p named own valid m. covers a b p named own valid m

@@ -1,5 +1,0 @@
-use Rattle.bb_walks.proofs.AtSites.{bounded}
-use Rattle.bb_walks.proofs.laws.lines_are_bounded.Goals as goal
-
-pub returns : goal.returns
-returns c = λ a b p i r cell named own valid m. bounded a b p named own valid m i r cell
