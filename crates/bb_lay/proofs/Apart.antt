@@ -21,7 +21,7 @@ use Rattle.bb_ctl.specs.Wires.{symbol_name, IsAdded}
 use Rattle.bb_ctl.proofs.Names.{names_differ, added_reserved, never_made}
 use Rattle.bb_lay.proofs.NameLemmas.{name_is, clock_is_name}
 use Rattle.bb_written.specs.Written.{is_inner, scalar_entry, added_clock, added_ports, inner_entry}
-use Rattle.bb_normal.specs.OwnNames.{IsOwnName}
+use Rattle.bb_ctl.specs.OwnNames.{IsOwnName}
 use Rattle.bb_lay.specs.Laying.{CanStand}
 use Rattle.bb_lay.proofs.Ascending.{ascends_join, weaker}
 use Rattle.bb_lay.proofs.Clocks.{PortsFirst, port_at, wire_at, front_long}

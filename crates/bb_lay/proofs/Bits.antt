@@ -9,7 +9,7 @@ use Rattle.bb_net.specs.Named.{Named}
 use Rattle.bb_net.specs.Building.{with_net, IsEarlier}
 use Rattle.bb_base.proofs.Lists.{map_join, length_map}
 use Rattle.bb_base.proofs.Contained.{here, there, either, none_in, contains_at}
-use Rattle.bb_added.proofs.Sizes.{filter_short}
+use Rattle.bb_written.proofs.Sizes.{filter_short}
 use Rattle.std.proofs.lemmas.List.FromFn.{length-range_with_len}
 use Rattle.std.proofs.lemmas.List.{get_or_append_left}
 use Rattle.std.proofs.Math.Seq.{get_or-append_seam}

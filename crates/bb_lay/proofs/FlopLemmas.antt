@@ -23,11 +23,6 @@ rings_next s n h =
     let next : suc s ≡ s + 1 = omega arith in
     ap (ring_flops s) count ∙ ap (λ k. flop (Ring s) (RingNext s) ∷ ring_flops k (n - (s + 1))) next
 
-pub rings_last : (s n : ℕ) → n ≡ s → ring_flops s (n - s) ≡ flop (Ring n) (RingNext n) ∷ []
-rings_last s n h =
-    let none : n - s ≡ 0 = omega (arith, h) in
-    ap (ring_flops s) none ∙ ap (λ k. flop (Ring k) (RingNext k) ∷ []) (sym h)
-
 pub cells_next : (i : ℕ) (cells : List Cell) (c : Cell) → slice_get cells i ≡ Some c → cell_flops i (drop i cells) ≡ flop (q_of i c) (Next i) ∷ cell_flops (i + 1) (drop (i + 1) cells)
 cells_next i cells c at =
     let next : suc i ≡ i + 1 = omega arith in

@@ -11,7 +11,7 @@ use Rattle.bb_base.specs.Variables.{Entry, IsBit, bit_at, bit_eq, is_port, range
 use Rattle.bb_base.proofs.Contained.{here, there, either, none_in, contains_map, to_all, of_all}
 use Rattle.bb_base.proofs.Lists.{get_front, get_back}
 use Rattle.bb_net.specs.Named.{Named, IsConsistent}
-use Rattle.bb_lay.specs.Laying.{IsLaid, net_bits, all_net_bits, moved}
+use Rattle.bb_lay.specs.Laying.{IsLaid, net_bits, all_net_bits, new_number}
 use Rattle.bb_lay.proofs.Bits.{stands_any}
 use Rattle.bb_lay.proofs.Clocks.{port_at, front_long, ports_within}
 
@@ -102,7 +102,7 @@ wire_bit names of number (v ∷ vs) (suc i) place e at less h =
     (subst (λ k. Contains (all_net_bits names (of + 1) (number + 1) vs) (bit_at k place)) (sym n) (wire_bit names (of + 1) (number + 1) vs i place e at less (subst (λ k. Contains names (bit_at k place)) m h)))
 
 -- a variable of the original by its new number
-pub moved_stands : (vs : List Entry) (middle more : List Entry) (p n : ℕ) (x : Entry) → p ≤ length vs → slice_get vs n ≡ Some x → slice_get (take p vs ++ (middle ++ (drop p vs ++ more))) (moved p (length middle) n) ≡ Some x
+pub moved_stands : (vs : List Entry) (middle more : List Entry) (p n : ℕ) (x : Entry) → p ≤ length vs → slice_get vs n ≡ Some x → slice_get (take p vs ++ (middle ++ (drop p vs ++ more))) (new_number p (length middle) n) ≡ Some x
 moved_stands vs middle more p n x within at = by (nat_lt n p) refl
   where
     front : List Entry
@@ -144,10 +144,10 @@ module _ (a b : Named) (h : IsConsistent a) (middle more : List Entry) (bits_bet
   back = drop p a.variables
 
   abbrev move : BitName → BitName
-  move bit = bit_at (moved p (length middle) bit.variable) bit.place
+  move bit = bit_at (new_number p (length middle) bit.variable) bit.place
 
   is_bit : (bit : BitName) → IsBit a.variables bit → IsBit b.variables (move bit)
-  is_bit bit k = record { entry = k.entry; stands = ap (λ vs. slice_get vs (moved p (length middle) bit.variable)) variables ∙ moved_stands a.variables middle more p bit.variable k.entry (ports_within a.variables) k.stands; place = k.place }
+  is_bit bit k = record { entry = k.entry; stands = ap (λ vs. slice_get vs (new_number p (length middle) bit.variable)) variables ∙ moved_stands a.variables middle more p bit.variable k.entry (ports_within a.variables) k.stands; place = k.place }
 
   pub bits_moved : All (λ bit. IsBit b.variables (move bit)) a.names
   bits_moved = λ i d less. is_bit (slice_index_or a.names i d) (h.bits i d less)

@@ -1,16 +1,14 @@
 -- Scalar variables that are added one after another, each with its net.
-use Rattle.std.proofs.Common.{arith, ◌≡◌, inl, inr, ℕ, ◌+◌, ◌<◌, suc, List, [], ◌∷◌, ◌++◌, map, length, All, Bool, true, Option, Some, None, if◌then◌else◌, refl, sym, ap, subst, ◌∙◌, length-append, append-nil}
+use Rattle.std.proofs.Common.{arith, ◌≡◌, inl, inr, ℕ, ◌+◌, suc, List, [], ◌∷◌, ◌++◌, map, length, Bool, true, Some, None, if◌then◌else◌, refl, sym, ap, subst, ◌∙◌, length-append}
 use Rattle.std.proofs.lemmas.Option.{same_Some}
-use Rattle.std.proofs.lemmas.List.Elements.{All-weaker}
 use Rattle.std.specs.List.{range_with_len}
-use Rattle.std.specs.Option.{ForSome}
 use Rattle.bb_base.specs.declared.variable.BitName.{BitName}
 use Rattle.bb_base.specs.declared.variable.Role.{Role}
 use Rattle.bb_base.specs.declared.variable.Role.TheVariants.{Input}
 use Rattle.bb_base.specs.declared.variable.Variable.{Variable}
 use Rattle.bb_base.specs.Variables.{Entry, bit_at, is_port}
 use Rattle.bb_net.specs.Named.{Named}
-use Rattle.bb_net.specs.Building.{with_variable, MayClock, IsEarlier}
+use Rattle.bb_net.specs.Building.{with_variable}
 use Rattle.bb_lay.specs.Laying.{AddsAll, CanStand, IsLaid, scalar_bits}
 use Rattle.bb_lay.proofs.Ascending.{all_places}
 use Rattle.bb_lay.proofs.Standing.{laid_step}
@@ -38,14 +36,6 @@ port_adds old new name role port e =
       flops = adds.flops;
     }
 
--- earlier variables' bits stand before a variable's first
-pub all_earlier : (number : ℕ) (names : List BitName) → All (λ bit. bit.variable < number) names → All (IsEarlier number 0) names
-all_earlier number names h = All-weaker (λ (b : BitName). b.variable < number) (IsEarlier number 0) (λ b less. (λ same. absurd (omega (arith, less, same)), omega (arith, less))) names h
-
--- the clock is added where there is none
-pub clock_fits : (old : Named) → old.clock ≡ None → ForSome (Some 0) (MayClock old (scalar Input))
-clock_fits old none = λ p is. let zero_is : 0 ≡ p = cc is in record { input = refl; within = omega (arith, zero_is); first = none }
-
 pub clock_added : (old new : Named) (name : List ℕ) → IsLaid old → old.clock ≡ None → new ≡ with_variable old name (scalar Input) (Some 0)
     → AddsAll old new ((name, scalar Input) ∷ []) [] (Some (bit_at (length old.variables) 0)) × IsLaid new
 clock_added old new name laid none e =
@@ -54,9 +44,6 @@ clock_added old new name laid none e =
       laid_step old new (name, scalar Input) [] (Some (bit_at (length old.variables) 0)) [] laid adds refl (record { ascend = tt; below = tt; few = omega arith })
           (λ c is. inr (sym (ap (λ (k : BitName). k.variable) (same_Some (bit_at (length old.variables) 0) c is)), tt)),
     )
-
-pub nothing_added : (old : Named) (clock : Option BitName) → old.clock ≡ clock → AddsAll old old [] [] clock
-nothing_added old clock e = record { module_name = refl; variables = sym (append-nil old.variables); clock_is = e; names = sym (append-nil old.names); gates = refl; flops = refl }
 
 -- so many bits from one on
 one_more : (number count : ℕ) → scalar_bits number (suc count) ≡ scalar_bits number 1 ++ scalar_bits (number + 1) count

@@ -7,9 +7,9 @@ use Rattle.bb_rules.specs.Plan.{PlanValue}
 use Rattle.bb_rules.specs.Valid.{IsValidPlan}
 use Rattle.bb_written.specs.Written.{added_clock, added_ports, inner_entry, inner_wires, written_variables}
 use Rattle.bb_ctl.specs.declared.wire.Wire.{Wire}
-use Rattle.bb_normal.specs.OwnNames.{HasOwnNames}
+use Rattle.bb_ctl.specs.OwnNames.{HasOwnNames}
 use Rattle.bb_lay.specs.Laying.{AddsAll, CanStand, laid_variables, laid_bits, clock_or}
-use Rattle.bb_added.proofs.Inner.{inner_are, inner_distinct, inner_few}
+use Rattle.bb_written.proofs.Inner.{inner_are, inner_distinct, inner_few}
 use Rattle.bb_lay.proofs.Apart.{all_stand}
 use Rattle.bb_lay.proofs.LaidLemmas.{parts}
 

@@ -1,11 +1,11 @@
 -- Tables by net: what is read of each, and the d of each flip-flop; and the rows that are made by them.
-use Rattle.std.proofs.Common.{arith, ◌≡◌, ◌≢◌, ℕ, ◌+◌, ◌<◌, ◌==◌, ◌&&◌, suc, List, [], ◌∷◌, ◌++◌, length, map, drop, All, Bool, true, false, Some, slice_get, slice_index, slice_index_or, if◌then◌else◌, Contains, refl, sym, ap, ◌∙◌, append_assoc, get_or-set_other, get_or-set_same}
+use Rattle.std.proofs.Common.{arith, ◌≡◌, ◌≢◌, ℕ, ◌+◌, ◌<◌, ◌==◌, ◌&&◌, suc, List, [], ◌∷◌, ◌++◌, length, map, drop, All, Bool, true, false, Some, slice_get, slice_index, slice_index_or, if◌then◌else◌, refl, sym, ap, ◌∙◌, get_or-set_other, get_or-set_same}
 use Rattle.std.proofs.lemmas.Bool.Decides.{nat_tests}
 use Rattle.std.proofs.lemmas.Option.{slice_get_within, slice_get-get_or, get_or_from_slice_get, same_Some}
 use Rattle.std.proofs.lemmas.List.Elements.{All-from_recursion}
 use Rattle.std.proofs.Math.ListN.{set, length-set}
 use Rattle.std.specs.List.{AllByRecursion, flat_map}
-use Rattle.bb_base.proofs.Contained.{here, there, by_place, at_place}
+use Rattle.bb_base.proofs.Contained.{by_place, at_place}
 use Rattle.bb_base.proofs.Lists.{all_front, all_back, all_parts, same_map_at}
 use Rattle.bb_netlist.specs.Net.{Flop, Gate, Netlist, IsNetlist, driven}
 use Rattle.bb_rules.specs.declared.plan.Cell.{Cell}
@@ -14,7 +14,6 @@ use Rattle.bb_rules.specs.declared.kind.Kind.TheVariants.{Input, State, Split, C
 use Rattle.bb_rules.specs.Kinds.{is_behind}
 use Rattle.bb_rules.specs.Lines.{d_of}
 use Rattle.bb_rules.specs.Plan.{PlanValue, RegisterValue}
-use Rattle.bb_rules.proofs.NetLemmas.{d_within}
 use Rattle.bb_ctl.specs.declared.wire.Wire.{Wire}
 use Rattle.bb_ctl.specs.declared.wire.Wire.TheVariants.{Kept, Test, First, Read}
 use Rattle.bb_ctl.specs.Reads.{q_of, read, read_behind, line_by}
@@ -120,21 +119,6 @@ module _ (a : Netlist ℕ) (p : PlanValue) (rs : List Wire) (ds : List ℕ) (t :
 -- the cells of a register stand where all do
 pub register_inside : (P : Cell → Type 0) (gs : List RegisterValue) (r : ℕ) (g : RegisterValue) → slice_get gs r ≡ Some g → AllByRecursion P (flat_map (λ k. k.cells) gs) → AllByRecursion P g.cells
 register_inside P gs r g at h = at_place (λ (k : RegisterValue). AllByRecursion P k.cells) gs r g (all_parts P (λ (k : RegisterValue). k.cells) gs h) at
-
--- rows, one cell and one register after another
-pub cell_step : (rs ws : List Wire) (ds : List ℕ) (r i n : ℕ) (before after : Wire) (cells : List Cell) (c : Cell) (old new all : List (Gate Wire)) → slice_get cells n ≡ Some c → after ≡ q_of i c
-    → old ++ rows_in rs ds ws r i before (drop n cells) ≡ all → new ≡ old ++ rows_of_cell ws r i before (line_in rs ds c.kind c.net) c → new ++ rows_in rs ds ws r (i + 1) after (drop (n + 1) cells) ≡ all
-cell_step rs ws ds r i n before after cells c old new all at q h e =
-    let next : i + 1 ≡ suc i = omega arith in
-    let here = rows_of_cell ws r i before (line_in rs ds c.kind c.net) c in
-    (λ j. e j ++ rows_in rs ds ws r (next j) (q j) (drop (n + 1) cells)) ∙ append_assoc old here (rows_in rs ds ws r (suc i) (q_of i c) (drop (n + 1) cells)) ∙ ap (λ ks. old ++ rows_in rs ds ws r i before ks) (sym (drop_pop cells n c at)) ∙ h
-
-pub register_step : (rs ws : List Wire) (ds : List ℕ) (r i : ℕ) (gs : List RegisterValue) (g : RegisterValue) (old new all : List (Gate Wire)) → slice_get gs r ≡ Some g
-    → old ++ all_rows_in rs ds ws r i (drop r gs) ≡ all → new ≡ old ++ rows_in rs ds ws r i (First r) g.cells → new ++ all_rows_in rs ds ws (r + 1) (i + length g.cells) (drop (r + 1) gs) ≡ all
-register_step rs ws ds r i gs g old new all at h e =
-    let next : r + 1 ≡ suc r = omega arith in
-    let here = rows_in rs ds ws r i (First r) g.cells in
-    (λ j. e j ++ all_rows_in rs ds ws (next j) (i + length g.cells) (drop (r + 1) gs)) ∙ append_assoc old here (all_rows_in rs ds ws (suc r) (i + length g.cells) (drop (r + 1) gs)) ∙ ap (λ ks. old ++ all_rows_in rs ds ws r i ks) (sym (drop_pop gs r g at)) ∙ h
 
 -- the original's gates, by the tables
 gates_are : (a : Netlist ℕ) (p : PlanValue) (rs : List Wire) (ds : List ℕ) → AreTables a p rs ds → (gs : List (Gate ℕ)) → AllByRecursion (λ (g : Gate ℕ). (g.out < length (driven a)) × AllByRecursion (λ m. m < length (driven a)) g.ins) gs

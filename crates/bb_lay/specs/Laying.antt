@@ -53,8 +53,8 @@ abbrev pub with_bits : Named → List BitName → Named
 with_bits n bits = record n { names = n.names ++ bits }
 
 -- the new number of a variable of the original, where so many ports stand before the added ones
-abbrev pub moved : ℕ → ℕ → ℕ → ℕ
-moved ports added number = if nat_lt number ports then number else number + added
+abbrev pub new_number : ℕ → ℕ → ℕ → ℕ
+new_number ports added number = if nat_lt number ports then number else number + added
 
 -- the clock's bit, where so many variables stand before an added one
 abbrev pub clock_or : Option BitName → ℕ → Option BitName
@@ -81,7 +81,7 @@ laid_bits a wires =
 pub record AreKept (a b : Named) (kept : List ℕ) : Type 0 where
   pub long : length kept ≡ length a.names
   pub each : (net : ℕ) → net < length a.names
-      → slice_get b.names (slice_index kept net) ≡ Some (bit_at (moved (ports_of a.variables) (length (added_clock a.clock ++ added_ports)) (name_of_net a net).variable) (name_of_net a net).place)
+      → slice_get b.names (slice_index kept net) ≡ Some (bit_at (new_number (ports_of a.variables) (length (added_clock a.clock ++ added_ports)) (name_of_net a net).variable) (name_of_net a net).place)
 
 -- both nets of a flip-flop stand
 abbrev pub HasBothWires : Named → List ℕ → Flop Wire → Type 0

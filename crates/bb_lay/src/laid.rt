@@ -6,7 +6,7 @@ ghost use Rattle.bb_net.specs.Named.{IsByBits};
 ghost use Rattle.bb_net.specs.Building.{started};
 ghost use Rattle.bb_rules.specs.Valid.{IsValidFor};
 ghost use Rattle.bb_written.specs.Written.{written_variables, inner_wires};
-ghost use Rattle.bb_normal.specs.OwnNames.{HasOwnNames};
+ghost use Rattle.bb_ctl.specs.OwnNames.{HasOwnNames};
 ghost use Rattle.bb_lay.specs.RowsOf.{AreRows};
 ghost use Rattle.bb_lay.specs.Laying.{AddsAll, IsLaid, AreKept, laid_bits, clock_or};
 

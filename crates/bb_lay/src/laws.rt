@@ -6,7 +6,7 @@ ghost use Rattle.bb_net.specs.Named.{Named, IsNamed};
 ghost use Rattle.bb_rules.specs.Plan.{PlanValue};
 ghost use Rattle.bb_rules.specs.Valid.{IsValidPlan};
 ghost use Rattle.bb_written.specs.Written.{written_variables};
-ghost use Rattle.bb_normal.specs.OwnNames.{HasOwnNames};
+ghost use Rattle.bb_ctl.specs.OwnNames.{HasOwnNames};
 ghost use Rattle.bb_lay.specs.Laying.{CanStand};
 
 /// The variables of a valid plan's written netlist can stand together: their names differ, ports come first, and they have few bits.

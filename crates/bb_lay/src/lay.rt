@@ -5,7 +5,7 @@ ghost use Rattle.std.specs.Option.{ForSome};
 ghost use Rattle.bb_base.specs.Variables.{Entry, IsBit, IsRange, clock_place, is_port, ports_of, range_width, bit_at, bit_count, role_bits};
 ghost use Rattle.bb_net.specs.Named.{IsNamed, name_of_net};
 ghost use Rattle.bb_net.specs.Building.{started, net_limit};
-ghost use Rattle.bb_lay.specs.Laying.{AddsAll, CanStand, IsLaid, with_bits, net_bits, all_net_bits, moved};
+ghost use Rattle.bb_lay.specs.Laying.{AddsAll, CanStand, IsLaid, with_bits, net_bits, all_net_bits, new_number};
 
 use crate::declare::{add_bit, declare, only_memory};
 use bb_base::{BitName, Name, Variable, width_of};
@@ -108,7 +108,7 @@ pub(crate) fn add_own_wires(
 /// The new number of a variable of the original.
 fn moved_number(ports: u32, added: u32, number: u32) -> u32
     requires { number + added < 2 ^ 32 }
-    ensures { result ≡ moved ports added number }
+    ensures { result ≡ new_number ports added number }
 {
     if number < ports {
         number
@@ -141,14 +141,14 @@ pub(crate) fn kept_nets(
     added: u32,
 ) -> Result<Vec<NetId>, AllocError>
     requires few { length named.now.variables + added < 2 ^ 32 }
-    requires bits { All (λ bit. IsBit builder.old.variables (bit_at (moved (ports_of named.now.variables) added bit.variable) bit.place)) named.now.names }
-    requires no_clock { ForSome builder.old.clock (λ c. All (λ bit. bit_at (moved (ports_of named.now.variables) added bit.variable) bit.place ≢ c) named.now.names) }
-    requires stand { All (λ bit. Contains builder.old.names (bit_at (moved (ports_of named.now.variables) added bit.variable) bit.place)) named.now.names }
+    requires bits { All (λ bit. IsBit builder.old.variables (bit_at (new_number (ports_of named.now.variables) added bit.variable) bit.place)) named.now.names }
+    requires no_clock { ForSome builder.old.clock (λ c. All (λ bit. bit_at (new_number (ports_of named.now.variables) added bit.variable) bit.place ≢ c) named.now.names) }
+    requires stand { All (λ bit. Contains builder.old.names (bit_at (new_number (ports_of named.now.variables) added bit.variable) bit.place)) named.now.names }
     requires room { length builder.old.names ≤ net_limit }
     ensures same { OnOk result (builder.new ≡ builder.old) }
     ensures long { IfOk result (λ nets. length nets.items ≡ length named.now.names) }
     ensures nets { IfOk result (λ nets. (net : ℕ) → net < length named.now.names
-        → slice_get builder.old.names (slice_index nets.items net) ≡ Some (bit_at (moved (ports_of named.now.variables) added (name_of_net named.now net).variable) (name_of_net named.now net).place)) }
+        → slice_get builder.old.names (slice_index nets.items net) ≡ Some (bit_at (new_number (ports_of named.now.variables) added (name_of_net named.now net).variable) (name_of_net named.now net).place)) }
 {
     let mut nets = Vec::new(alloc);
     let ports = named.ports();

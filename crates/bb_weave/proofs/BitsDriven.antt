@@ -22,10 +22,10 @@ use Rattle.bb_written.specs.Written.{scalar_site, wire_site, written_gate, test_
 use Rattle.bb_normal.proofs.Numbered.{IsNumbered}
 use Rattle.bb_normal.proofs.Ranks.{Side, IsKept, IsNew, side}
 use Rattle.bb_normal.proofs.Standing.{all_of}
-use Rattle.bb_added.proofs.Rising.{out_of, q_in}
-use Rattle.bb_added.proofs.Reached.{HoldsOfDriven, so, done}
-use Rattle.bb_added.proofs.Driven.{holds}
-use Rattle.bb_added.proofs.Inner.{inner_added}
+use Rattle.bb_written.proofs.Rising.{out_of, q_in}
+use Rattle.bb_written.proofs.Reached.{HoldsOfDriven, so, done}
+use Rattle.bb_written.proofs.Driven.{holds}
+use Rattle.bb_written.proofs.Inner.{inner_added}
 use Rattle.bb_lay.specs.Laying.{net_bits, all_net_bits, scalar_bits, wires_from, laid_bits}
 use Rattle.bb_lay.proofs.Bits.{any_stands}
 use Rattle.bb_lay.proofs.Clocks.{front_long}

@@ -23,11 +23,11 @@ use Rattle.bb_ctl.specs.Registers.{control_rows}
 use Rattle.bb_ctl.specs.Numbering.{wires_in, HasWire, HasDistinctNets}
 use Rattle.bb_written.specs.Cells.{when, xor_row, next_terms, cell_rows, rows_of_cells, all_cells_from, flops}
 use Rattle.bb_written.specs.Written.{test_gates, written_gate, written_netlist}
-use Rattle.bb_added.proofs.Rising.{q_in}
-use Rattle.bb_added.proofs.Reached.{RowHolds, HoldsOfDriven, cells_are, d_in, ds_hold}
-use Rattle.bb_added.proofs.Driven.{d_inside, holds, rows_all}
-use Rattle.bb_added.proofs.Few.{are_few}
-use Rattle.bb_added.proofs.Sizes.{ahead_long, gates_long, flops_long}
+use Rattle.bb_written.proofs.Rising.{q_in}
+use Rattle.bb_written.proofs.Reached.{RowHolds, HoldsOfDriven, cells_are, d_in, ds_hold}
+use Rattle.bb_written.proofs.Driven.{d_inside, holds, rows_all}
+use Rattle.bb_written.proofs.Few.{are_few}
+use Rattle.bb_written.proofs.Sizes.{ahead_long, gates_long, flops_long}
 use Rattle.bb_lay.specs.Laying.{HasBothWires}
 use Rattle.bb_lay.specs.RowsOf.{AreRows}
 use Rattle.bb_lay.specs.declared.rows.Rows.{Rows}

@@ -21,7 +21,7 @@ use Rattle.bb_rules.specs.Plan.{PlanValue}
 use Rattle.bb_rules.specs.Valid.{IsValidPlan}
 use Rattle.bb_ctl.specs.declared.wire.Wire.{Wire}
 use Rattle.bb_written.specs.Written.{wire_site, written_netlist, written_variables, written}
-use Rattle.bb_normal.specs.OwnNames.{HasOwnNames}
+use Rattle.bb_ctl.specs.OwnNames.{HasOwnNames}
 use Rattle.bb_normal.proofs.Standing.{written_sites_differ}
 use Rattle.bb_lay.proofs.Stand.{variables_stand}
 use Rattle.bb_weave.proofs.Filled.{IsFilled}

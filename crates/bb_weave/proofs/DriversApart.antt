@@ -23,9 +23,9 @@ use Rattle.bb_ctl.specs.Wires.{IsAdded}
 use Rattle.bb_ctl.proofs.SymbolNames.{added_is_new}
 use Rattle.bb_written.specs.Cells.{flop, word_flops, ring_flops, cell_flops, flops}
 use Rattle.bb_written.specs.Written.{test_gates, written_gate, written_netlist}
-use Rattle.bb_added.proofs.Few.{AreFew, are_few}
-use Rattle.bb_added.proofs.Rising.{Rises, out_of, q_in, rises_join, rises_filter, rises_added, rises_distinct, outs_rise, qs_rise}
-use Rattle.bb_added.proofs.Sizes.{ahead_long, cells_counted}
+use Rattle.bb_written.proofs.Few.{AreFew, are_few}
+use Rattle.bb_written.proofs.Rising.{Rises, out_of, q_in, rises_join, rises_filter, rises_added, rises_distinct, outs_rise, qs_rise}
+use Rattle.bb_written.proofs.Sizes.{ahead_long, cells_counted}
 
 -- lists in two parts --------------------------------------------------------------
 

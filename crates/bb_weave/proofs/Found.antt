@@ -21,15 +21,15 @@ use Rattle.bb_rules.specs.Valid.{IsValidPlan}
 use Rattle.bb_ctl.specs.declared.wire.Wire.{Wire}
 use Rattle.bb_ctl.specs.declared.wire.Wire.TheVariants.{Kept, Test, Init, So, Done, NotInit, NotTest, Go, NotGo, Parity, Low, Feed, Word, WordNext, Wrap, Phase, PhaseTurned, PhaseNext, Advance, NotAdvance, Ring, RingKept, RingMoved, RingOr, RingNext, NotOver, Live, NotPhase, Running, Shifting, On, Compacts, Latches, Takes, Off, Codes, Feedback, Signed, Carried, First, Line, Chain, Code, Coded, Next, InTest, InNormal, Read, Held}
 use Rattle.bb_ctl.specs.Wires.{symbol_name}
-use Rattle.bb_ctl.specs.Numbering.{first_net, net_by, net_for, number_or_zero}
+use Rattle.bb_ctl.specs.Numbering.{found_net, net_by, net_for, number_or_zero}
 use Rattle.bb_ctl.proofs.SymbolNames.{added_is_new}
 use Rattle.bb_written.specs.Cells.{flops}
 use Rattle.bb_written.specs.Written.{test_gates, written_gate, written_netlist, is_inner, inner_wires, scalar_entry, scalar_site, added_clock, added_ports, inner_entry, written_variables}
 use Rattle.bb_normal.proofs.Numbered.{IsNumbered}
 use Rattle.bb_normal.proofs.Ranks.{New, Side, IsKept, IsNew, is_new, side}
 use Rattle.bb_normal.proofs.Standing.{all_of}
-use Rattle.bb_added.proofs.Rising.{out_of, q_in}
-use Rattle.bb_lay.specs.Laying.{AreKept, moved, laid_bits, all_net_bits, scalar_bits, wires_from}
+use Rattle.bb_written.proofs.Rising.{out_of, q_in}
+use Rattle.bb_lay.specs.Laying.{AreKept, new_number, laid_bits, all_net_bits, scalar_bits, wires_from}
 use Rattle.bb_lay.proofs.Clocks.{front_long, ports_within}
 use Rattle.bb_lay.proofs.KeptNets.{in_first, in_second, in_range, in_filter, moved_stands}
 use Rattle.bb_lay.proofs.Stand.{laid_are}
@@ -101,7 +101,7 @@ found_new a b kept w j e new apart at name there =
     let place = place_of b.names (bit_at j 0) there in
     let found = position_found (bit_eq (bit_at j 0)) b.names place.0 (bit_at j 0) place.1 (own_bit (bit_at j 0)) in
     let stands : slice_get b.names found.0 ≡ Some (bit_at j 0) = found_bit b.names (bit_at j 0) found.0 found.1 in
-    let has : net_for b kept w ≡ Some found.0 = ap (net_by b kept (symbol_name w)) (added_is_new w new.added) ∙ ap (first_net b) lookup ∙ found.1 in
+    let has : net_for b kept w ≡ Some found.0 = ap (net_by b kept (symbol_name w)) (added_is_new w new.added) ∙ ap (found_net b) lookup ∙ found.1 in
     let bit : name_of_net b found.0 ≡ bit_at j 0 = get_or_from_slice_get b.names found.0 (bit_at j 0) (record { variable = 0; place = 0 }) stands in
     let site : site_of b found.0 ≡ scalar_site (symbol_name w) = ap (site_of_bit b.variables) bit ∙ ap (λ o. site_in o 0) at ∙ ap scalar_site name in
     record { has = record { net = found.0; found = has; stands = slice_get_within b.names found.0 (bit_at j 0) stands }; site = ap (λ o. site_of b (number_or_zero o)) has ∙ site ∙ sym (new.site a) }
@@ -192,7 +192,7 @@ module _ (a b : Named) (p : PlanValue) (kept : List ℕ) (named : IsNamed a) (va
   found_kept net less =
       let bit : BitName = name_of_net a net in
       let stands : IsBit a.variables bit = named.consistent.bits net (record { variable = 0; place = 0 }) less in
-      let moved_bit : BitName = bit_at (moved count (length (clk ++ added_ports)) bit.variable) bit.place in
+      let moved_bit : BitName = bit_at (new_number count (length (clk ++ added_ports)) bit.variable) bit.place in
       let at : slice_get b.names (slice_index kept net) ≡ Some moved_bit = kept_are.each net less in
       let has : slice_get kept net ≡ Some (slice_index kept net) = slice_get-get_or kept net 0 (omega (arith, less, kept_are.long)) in
       let name : name_of_net b (slice_index kept net) ≡ moved_bit = get_or_from_slice_get b.names (slice_index kept net) moved_bit (record { variable = 0; place = 0 }) at in

@@ -8,3 +8,5 @@ mod Sited
 mod DriversApart
 mod BitsDriven
 mod DrivenOnce
+mod Counted
+mod RoomLemmas

@@ -16,10 +16,10 @@ use Rattle.bb_ctl.specs.Numbering.{net_at}
 use Rattle.bb_ctl.specs.Wires.{symbol_name}
 use Rattle.bb_written.specs.Cells.{flops}
 use Rattle.bb_written.specs.Written.{scalar_site, wire_site, written_netlist, inner_wires, written_clock, written}
-use Rattle.bb_added.proofs.Rising.{q_in}
-use Rattle.bb_added.proofs.Reached.{RowHolds, d_in, ds_hold}
-use Rattle.bb_added.proofs.Driven.{d_inside, holds, rows_all}
-use Rattle.bb_added.proofs.Sizes.{ahead_long}
+use Rattle.bb_written.proofs.Rising.{q_in}
+use Rattle.bb_written.proofs.Reached.{RowHolds, d_in, ds_hold}
+use Rattle.bb_written.proofs.Driven.{d_inside, holds, rows_all}
+use Rattle.bb_written.proofs.Sizes.{ahead_long}
 use Rattle.bb_weave.proofs.Filled.{IsFilled}
 use Rattle.bb_weave.proofs.PortSites.{inputs_are, outputs_are, clock_site}
 

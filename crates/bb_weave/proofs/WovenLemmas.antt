@@ -24,12 +24,12 @@ use Rattle.bb_written.specs.Written.{written_netlist, written_variables, inner_w
 use Rattle.bb_written.proofs.Forward.{forward}
 use Rattle.bb_written.proofs.Ranked.{no_loop}
 use Rattle.bb_normal.specs.Normal.{Normal}
-use Rattle.bb_normal.specs.OwnNames.{HasOwnNames}
+use Rattle.bb_ctl.specs.OwnNames.{HasOwnNames}
 use Rattle.bb_normal.proofs.Mirroring.{itself}
 use Rattle.bb_normal.proofs.Whole.{normal, ordered}
-use Rattle.bb_added.proofs.Reached.{HoldsOfDriven, cells_are}
-use Rattle.bb_added.proofs.Driven.{holds}
-use Rattle.bb_added.proofs.Sizes.{flops_long}
+use Rattle.bb_written.proofs.Reached.{HoldsOfDriven, cells_are}
+use Rattle.bb_written.proofs.Driven.{holds}
+use Rattle.bb_written.proofs.Sizes.{flops_long}
 use Rattle.bb_lay.specs.Laying.{AddsAll, CanStand, IsLaid, AreKept, laid_bits, clock_or}
 use Rattle.bb_lay.specs.RowsOf.{AreRows}
 use Rattle.bb_lay.specs.declared.rows.Rows.{Rows}

@@ -15,7 +15,7 @@ ghost use Rattle.bb_ctl.specs.Registers.{control_rows};
 ghost use Rattle.bb_ctl.specs.Numbering.{net_at};
 ghost use Rattle.bb_written.specs.Written.{written};
 ghost use Rattle.bb_normal.specs.Normal.{Normal};
-ghost use Rattle.bb_normal.specs.OwnNames.{HasOwnNames};
+ghost use Rattle.bb_ctl.specs.OwnNames.{HasOwnNames};
 ghost use Rattle.bb_weave.specs.Woven.{AreNetsOf};
 ghost use Rattle.bb_weave.specs.Filling.{CanFill};
 

@@ -3,7 +3,7 @@ use Rattle.std.proofs.Common.{◌≡◌, ◌+◌, ℕ, None, List, [], ◌∷◌
 use Rattle.std.specs.List.{All, AllByRecursion}
 use Rattle.std.proofs.lemmas.List.Elements.{recursion_from_All}
 use Rattle.bb_base.specs.Variables.{Entry, bit_count, range_width}
-use Rattle.bb_normal.specs.OwnNames.{IsOwnName}
+use Rattle.bb_ctl.specs.OwnNames.{IsOwnName}
 
 -- a single bit, with a name that is not reserved or that of a made wire
 abbrev pub IsFit : Entry → Type 0

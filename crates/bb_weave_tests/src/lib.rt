@@ -12,6 +12,8 @@ mod premises;
 #[cfg(test)]
 mod runs;
 #[cfg(test)]
+mod statements;
+#[cfg(test)]
 mod texts;
 #[cfg(test)]
 mod woven;

@@ -4,7 +4,7 @@ ghost use Rattle.std.specs.Prelude.{◌≤◌, IfSome};
 ghost use Rattle.bb_base.specs.Variables.{bit_count};
 ghost use Rattle.bb_netlist.specs.Order.{IsOrder};
 ghost use Rattle.bb_rules.specs.Valid.{IsValidFor};
-ghost use Rattle.bb_normal.specs.OwnNames.{HasOwnNames};
+ghost use Rattle.bb_ctl.specs.OwnNames.{HasOwnNames};
 
 use crate::plans::{Row, plan};
 use crate::premises::is_weavable;

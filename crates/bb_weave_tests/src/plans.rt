@@ -21,7 +21,7 @@ fn register(alloc: Global, rows: &[Row]) -> Result<Register, AllocError> {
     Ok(Register { mask, cells })
 }
 
-/// A plan of degree 1 or 2, with its least full mask, for lines of at most two leaves.
+/// A plan of degree 1, 2 or 3, with its least full mask, for lines of at most two leaves.
 pub(crate) fn plan(
     alloc: Global,
     degree: u32,
@@ -38,7 +38,11 @@ pub(crate) fn plan(
             compact: Vec::from_slice(alloc, numbers)?,
         })?;
     }
-    let mask = if degree == 1 { 1 } else { 3 };
+    let mask = match degree {
+        1 => 1,
+        2 => 3,
+        _ => 5,
+    };
     Ok(Plan {
         width: 2,
         degree,

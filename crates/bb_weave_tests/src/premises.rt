@@ -4,7 +4,7 @@ ghost use Rattle.std.specs.Prelude.{◌≡◌, ◌≤◌, None, true};
 ghost use Rattle.std.specs.List.{All};
 ghost use Rattle.bb_base.specs.OwnNames.{made_name};
 ghost use Rattle.bb_base.specs.Variables.{bit_count};
-ghost use Rattle.bb_normal.specs.OwnNames.{HasOwnNames, IsOwnName};
+ghost use Rattle.bb_ctl.specs.OwnNames.{HasOwnNames, IsOwnName};
 
 use bb_base::{Name, Variable, is_reserved, made_name};
 use bb_net::Named;

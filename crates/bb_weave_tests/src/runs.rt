@@ -51,6 +51,23 @@ fn inputs(alloc: Global, own: &[bool], test: bool, init: bool) -> Result<Vec<boo
     Ok(inputs)
 }
 
+/// The outputs in the first run cycle of a test run: all flip-flops start with one bit, and the original's inputs keep theirs.
+pub(crate) fn first_outputs(
+    alloc: Global,
+    named: &Named,
+    order: &Order,
+    own: &[bool],
+    start: bool,
+) -> Option<Vec<u8>>
+    requires { IsOrder named.now.netlist.gates order.now }
+{
+    let mut state = vec![in alloc; start; named.netlist().flops().len()].ok()?;
+    let begin = inputs(alloc, own, true, true).ok()?;
+    outputs(alloc, named, order, &begin, &mut state)?;
+    let run = inputs(alloc, own, true, false).ok()?;
+    outputs(alloc, named, order, &run, &mut state)
+}
+
 /// What a test run shows: the serial output and the end, a digit for each cycle.
 #[derive(Drop)]
 pub(crate) struct Shown {

@@ -210,6 +210,31 @@ pub(crate) const MADE: &str = "module made (a, y);\n\
     not (y, bt_w0);\n\
     endmodule\n";
 
+/// An input that nothing reads.
+pub(crate) const IDLE: &str = "module none (a);\n\
+    input a;\n\
+    endmodule\n";
+
+/// A flip-flop that takes an input's complement, with a made wire between them; the nets a, y and bt_w0.
+pub(crate) const LATE: &str = "module late (clk, a, y);\n\
+    input clk;\n\
+    input a;\n\
+    output y;\n\
+    wire bt_w0;\n\
+    not (bt_w0, a);\n\
+    dff bt_f0 (clk, y, bt_w0);\n\
+    endmodule\n";
+
+/// A net t that is to be cut, with the nets a, b, y and t.
+pub(crate) const CUT: &str = "module cut (a, b, y);\n\
+    input a;\n\
+    input b;\n\
+    output y;\n\
+    wire t;\n\
+    and (t, a, b);\n\
+    nor (y, t, b);\n\
+    endmodule\n";
+
 /// The half adder with its self-test, with this statement for the sum.
 pub(crate) fn tested_half(alloc: Global, sum: &str) -> Result<String, AllocError> {
     let mut text = String::new(alloc);

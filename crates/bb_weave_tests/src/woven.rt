@@ -5,8 +5,8 @@ ghost use Rattle.bb_netlist.specs.Order.{IsOrder};
 
 use crate::netlists::{read, woven};
 use crate::plans::Row;
-use crate::runs::{outputs, shows};
-use crate::texts::{HALF, MADE, ONE, STUCK, SUM, SWAP, TOGGLE, WIRE, tested_half};
+use crate::runs::{first_outputs, outputs, shows};
+use crate::texts::{CUT, HALF, IDLE, LATE, MADE, ONE, STUCK, SUM, SWAP, TOGGLE, WIRE, tested_half};
 use bb_net::Named;
 use bb_netlist::Order;
 use bb_plan::Kind;
@@ -75,10 +75,25 @@ fn tests_text(
     }
 }
 
-/// Whether the test run of a plan of degree 1 shows this.
+/// Whether the outputs are these in the first run cycle of the text of a half adder with its self-test, with this statement for the sum.
+fn begins_with(alloc: Global, sum: &str, start: bool, own: &[bool], wanted: &[u8]) -> bool {
+    let Ok(text) = tested_half(alloc, sum) else {
+        return false;
+    };
+    let Some((named, order)) = read(alloc, text.as_str()) else {
+        return false;
+    };
+    match first_outputs(alloc, &named, &order, own, start) {
+        Some(found) => found.as_slice() == wanted,
+        None => false,
+    }
+}
+
+/// Whether the test run of a plan shows this.
 fn tests(
     alloc: Global,
     text: &str,
+    degree: u32,
     rows: &[&[Row]],
     compact: &[&[u32]],
     start: bool,
@@ -86,7 +101,7 @@ fn tests(
     serial: &[u8],
     done: &[u8],
 ) -> bool {
-    let found = woven(alloc, text, 1, rows, compact);
+    let found = woven(alloc, text, degree, rows, compact);
     shows(alloc, &found, own, start, serial, done)
 }
 
@@ -129,6 +144,124 @@ fn a_sum_that_is_constant_shows(rt: HostRuntime) {
 }
 
 #[test]
+fn a_sum_that_is_constant_differs_in_the_first_run_cycle(rt: HostRuntime) {
+    assert!(rt; begins_with(rt.alloc(), SUM, false, &[false, true], b"0000"));
+    assert!(rt; begins_with(rt.alloc(), SUM, true, &[true, true], b"0000"));
+    assert!(rt; begins_with(rt.alloc(), STUCK, false, &[false, true], b"1000"));
+    assert!(rt; begins_with(rt.alloc(), STUCK, true, &[true, true], b"1000"));
+}
+
+#[test]
+fn a_half_adder_has_its_signatures_in_other_plans(rt: HostRuntime) {
+    let sources: &[Row] = &[(Kind::Input, 0, 1), (Kind::Input, 1, 2)];
+    let sums: &[Row] = &[(Kind::Output, 2, 0), (Kind::Output, 3, 0)];
+    assert!(rt;
+        tests(
+            rt.alloc(),
+            HALF,
+            3,
+            &[sources, sums],
+            &[&[1]],
+            true,
+            &[true, false],
+            b"000000000110000000",
+            b"000000000000000001"
+        )
+    );
+    let (a, b): (&[Row], &[Row]) = (&[(Kind::Input, 0, 1)], &[(Kind::Input, 1, 2)]);
+    let (s, c): (&[Row], &[Row]) = (&[(Kind::Output, 2, 0)], &[(Kind::Output, 3, 0)]);
+    assert!(rt;
+        tests(
+            rt.alloc(),
+            HALF,
+            2,
+            &[a, b, s, c],
+            &[&[2, 3]],
+            true,
+            &[true, true],
+            b"0000010000",
+            b"0000000001"
+        )
+    );
+}
+
+#[test]
+fn a_test_without_sessions_is_over_at_once(rt: HostRuntime) {
+    let input: &[Row] = &[(Kind::Input, 0, 0)];
+    assert!(rt;
+        tests(
+            rt.alloc(),
+            IDLE,
+            1,
+            &[input],
+            &[],
+            true,
+            &[true],
+            b"0000",
+            b"0111"
+        )
+    );
+}
+
+#[test]
+fn a_register_in_two_sessions_signs_in_both(rt: HostRuntime) {
+    let input: &[Row] = &[(Kind::Input, 0, 1)];
+    let output: &[Row] = &[(Kind::Output, 1, 0)];
+    assert!(rt;
+        tests(
+            rt.alloc(),
+            WIRE,
+            1,
+            &[input, output],
+            &[&[1], &[1]],
+            true,
+            &[false],
+            b"0001000100",
+            b"0000000001"
+        )
+    );
+}
+
+#[test]
+fn a_cut_net_is_signed_and_then_what_reads_its_cell(rt: HostRuntime) {
+    let sources: &[Row] = &[(Kind::Input, 0, 1), (Kind::Input, 1, 2)];
+    let cut: &[Row] = &[(Kind::Cut, 3, 1)];
+    let output: &[Row] = &[(Kind::Output, 2, 0)];
+    assert!(rt;
+        tests(
+            rt.alloc(),
+            CUT,
+            2,
+            &[sources, cut, output],
+            &[&[1], &[2]],
+            true,
+            &[true, false],
+            b"000000100000010000",
+            b"000000000000000001"
+        )
+    );
+}
+
+#[test]
+fn a_flip_flop_behind_a_made_wire_has_its_signature(rt: HostRuntime) {
+    let input: &[Row] = &[(Kind::Input, 0, 1)];
+    let state: &[Row] = &[(Kind::State, 1, 1)];
+    assert!(rt;
+        tests(
+            rt.alloc(),
+            LATE,
+            1,
+            &[input, state],
+            &[&[1]],
+            true,
+            &[true],
+            b"0001000",
+            b"0000011"
+        )
+    );
+}
+
+#[test]
 fn a_wire_and_a_constant_have_their_signatures(rt: HostRuntime) {
     let input: &[Row] = &[(Kind::Input, 0, 1)];
     let output: &[Row] = &[(Kind::Output, 1, 0)];
@@ -137,6 +270,7 @@ fn a_wire_and_a_constant_have_their_signatures(rt: HostRuntime) {
         tests(
             rt.alloc(),
             WIRE,
+            1,
             wire,
             &[&[1]],
             false,
@@ -149,6 +283,7 @@ fn a_wire_and_a_constant_have_their_signatures(rt: HostRuntime) {
         tests(
             rt.alloc(),
             WIRE,
+            1,
             wire,
             &[&[1]],
             true,
@@ -161,6 +296,7 @@ fn a_wire_and_a_constant_have_their_signatures(rt: HostRuntime) {
         tests(
             rt.alloc(),
             MADE,
+            1,
             wire,
             &[&[1]],
             true,
@@ -174,6 +310,7 @@ fn a_wire_and_a_constant_have_their_signatures(rt: HostRuntime) {
         tests(
             rt.alloc(),
             ONE,
+            1,
             &[only],
             &[&[0]],
             true,
@@ -193,6 +330,7 @@ fn flip_flops_have_their_signatures(rt: HostRuntime) {
         tests(
             rt.alloc(),
             TOGGLE,
+            1,
             toggle,
             &[&[1]],
             false,
@@ -205,6 +343,7 @@ fn flip_flops_have_their_signatures(rt: HostRuntime) {
         tests(
             rt.alloc(),
             TOGGLE,
+            1,
             toggle,
             &[&[1]],
             true,
@@ -222,6 +361,7 @@ fn flip_flops_have_their_signatures(rt: HostRuntime) {
         tests(
             rt.alloc(),
             SWAP,
+            1,
             swap,
             &[&[0], &[1]],
             false,
@@ -234,6 +374,7 @@ fn flip_flops_have_their_signatures(rt: HostRuntime) {
         tests(
             rt.alloc(),
             SWAP,
+            1,
             swap,
             &[&[0], &[1]],
             true,

@@ -9,9 +9,9 @@ use Rattle.bb_ctl.specs.Wires.{IsAdded}
 use Rattle.bb_written.specs.Written.{inner_wires}
 use Rattle.bb_lay.specs.Tables.{IsOn}
 use Rattle.bb_lay.specs.RowsOf.{AreRows}
-use Rattle.bb_added.proofs.Few.{are_few}
-use Rattle.bb_added.proofs.Driven.{cells_within}
-use Rattle.bb_added.proofs.Inner.{inner_added}
+use Rattle.bb_written.proofs.Few.{are_few}
+use Rattle.bb_written.proofs.Driven.{cells_within}
+use Rattle.bb_written.proofs.Inner.{inner_added}
 use Rattle.bb_lay.proofs.LaidLemmas.{laid_names}
 use Rattle.bb_lay.proofs.Stand.{variables_stand, laid_stand, laid_are, all_added}
 use Rattle.bb_lay.proofs.laid.lay_written.Goals as goal

@@ -5,7 +5,7 @@ use Rattle.bb_netlist.specs.Net.{Flop}
 use Rattle.bb_rules.specs.Lines.{d_of}
 use Rattle.bb_rules.proofs.NetLemmas.{q_within}
 use Rattle.bb_ctl.specs.Reads.{read_behind}
-use Rattle.bb_added.proofs.Driven.{d_inside}
+use Rattle.bb_written.proofs.Driven.{d_inside}
 use Rattle.bb_lay.proofs.reads.tables_of.Goals as goal
 
 pub ds_of-requires : goal.ds_of-requires

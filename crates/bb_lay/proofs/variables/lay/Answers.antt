@@ -3,7 +3,7 @@ use Rattle.std.specs.Option.{ForSome}
 use Rattle.bb_base.specs.Variables.{IsBit, bit_at, ports_of}
 use Rattle.bb_net.specs.Named.{Named, name_of_net}
 use Rattle.bb_written.specs.Written.{added_clock, added_ports, inner_entry}
-use Rattle.bb_lay.specs.Laying.{AddsAll, IsLaid, moved, scalar_bits, laid_variables, laid_bits, wires_from, clock_or}
+use Rattle.bb_lay.specs.Laying.{AddsAll, IsLaid, new_number, scalar_bits, laid_variables, laid_bits, wires_from, clock_or}
 use Rattle.bb_lay.proofs.KeptNets.{bits_moved, all_stand, none_clock}
 use Rattle.bb_lay.proofs.LaidLemmas.{few_variables, laid_names, laid_room}
 use Rattle.bb_lay.proofs.variables.lay.Goals as goal
@@ -17,7 +17,7 @@ kept_nets-requires-clause-bits c =
     let b = c.lay_variables.new.builder in
     let ws = c.args.wires.now in
     let is = laid_names a b c.args.builder.now ws c.requires.started c.in_ok-lay_variables.ensures.adds in
-    subst (λ k. All (λ bit. IsBit b.variables (bit_at (moved (ports_of a.variables) k bit.variable) bit.place)) a.names) (sym c.count_added.ensures.count)
+    subst (λ k. All (λ bit. IsBit b.variables (bit_at (new_number (ports_of a.variables) k bit.variable) bit.place)) a.names) (sym c.count_added.ensures.count)
     (bits_moved a b c.count_added.ensures.named.consistent (added_clock a.clock ++ added_ports) (map inner_entry ws) (scalar_bits (ports_of a.variables + length (added_clock a.clock)) 4) (scalar_bits (wires_from a + length (drop (ports_of a.variables) a.variables)) (length ws)) is.0 is.1)
 
 pub kept_nets-requires-clause-no_clock : goal.kept_nets-requires-clause-no_clock
@@ -26,7 +26,7 @@ kept_nets-requires-clause-no_clock c =
     let b = c.lay_variables.new.builder in
     let ws = c.args.wires.now in
     let is = laid_names a b c.args.builder.now ws c.requires.started c.in_ok-lay_variables.ensures.adds in
-    subst (λ k. ForSome b.clock (λ x. All (λ bit. bit_at (moved (ports_of a.variables) k bit.variable) bit.place ≢ x) a.names)) (sym c.count_added.ensures.count)
+    subst (λ k. ForSome b.clock (λ x. All (λ bit. bit_at (new_number (ports_of a.variables) k bit.variable) bit.place ≢ x) a.names)) (sym c.count_added.ensures.count)
     (none_clock a b c.count_added.ensures.named.consistent (added_clock a.clock ++ added_ports) (map inner_entry ws) (scalar_bits (ports_of a.variables + length (added_clock a.clock)) 4) (scalar_bits (wires_from a + length (drop (ports_of a.variables) a.variables)) (length ws)) is.0 is.1 c.in_ok-lay_variables.ensures.laid)
 
 pub kept_nets-requires-clause-stand : goal.kept_nets-requires-clause-stand
@@ -35,7 +35,7 @@ kept_nets-requires-clause-stand c =
     let b = c.lay_variables.new.builder in
     let ws = c.args.wires.now in
     let is = laid_names a b c.args.builder.now ws c.requires.started c.in_ok-lay_variables.ensures.adds in
-    subst (λ k. All (λ bit. Contains b.names (bit_at (moved (ports_of a.variables) k bit.variable) bit.place)) a.names) (sym c.count_added.ensures.count)
+    subst (λ k. All (λ bit. Contains b.names (bit_at (new_number (ports_of a.variables) k bit.variable) bit.place)) a.names) (sym c.count_added.ensures.count)
     (all_stand a b c.count_added.ensures.named.consistent (added_clock a.clock ++ added_ports) (map inner_entry ws) (scalar_bits (ports_of a.variables + length (added_clock a.clock)) 4) (scalar_bits (wires_from a + length (drop (ports_of a.variables) a.variables)) (length ws)) is.0 is.1)
 
 pub kept_nets-requires-clause-room : goal.kept_nets-requires-clause-room
@@ -55,5 +55,5 @@ returns-clause-kept c =
     record {
       long = c.in_ok-kept.ensures.long;
       each = λ net less. ap (λ (b : Named). slice_get b.names (slice_index c.in_ok-kept.kept.items net)) same ∙ c.in_ok-kept.ensures.nets net less
-          ∙ ap (λ k. Some (bit_at (moved (ports_of a.variables) k (name_of_net a net).variable) (name_of_net a net).place)) c.count_added.ensures.count;
+          ∙ ap (λ k. Some (bit_at (new_number (ports_of a.variables) k (name_of_net a net).variable) (name_of_net a net).place)) c.count_added.ensures.count;
     }
