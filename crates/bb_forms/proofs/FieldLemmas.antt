@@ -128,9 +128,5 @@ marked_hex_again mark n small =
     let word : front_hex (hex_word n) ≡ Some (n, []) = ap front_hex (sym (append-nil (hex_word n))) ∙ front_hex_again n [] small in
     rw (mark_again mark (hex_word n), word) refl
 
--- the last word of a line
-pub last_number : (limit n : ℕ) → n < limit → n < 2 ^ 64 → front_number limit (number_word n) ≡ Some (n, [])
-last_number limit n small fits = ap (front_number limit) (sym (append-nil (number_word n))) ∙ front_number_again limit n [] small fits refl
-
 pub last_hex : (n : ℕ) → n < field_limit → front_hex (hex_word n) ≡ Some (n, [])
 last_hex n small = ap front_hex (sym (append-nil (hex_word n))) ∙ front_hex_again n [] small
