@@ -15,7 +15,7 @@ use Rattle.bb_choose.specs.Arranged.{source_nets, sources_of_chain, source_numbe
 use Rattle.bb_choose.specs.Coding.{AreLeafNets, AreNumbers, AreSourcesOf, IsReady}
 use Rattle.bb_choose.proofs.NumberLemmas.{number_is, all_numbers_are}
 
-few_pass : {X : Type 0} (p : X → Bool) (xs : List X) → length (filter p xs) ≤ length xs
+pub few_pass : {X : Type 0} (p : X → Bool) (xs : List X) → length (filter p xs) ≤ length xs
 few_pass p [] = omega arith
 few_pass {X} p (x ∷ xs) = by (p x) (few_pass p xs)
   where

@@ -6,3 +6,10 @@ pub mod MaskLemmas
 pub mod PlanLemmas
 pub mod SessionCounts
 pub mod LackLemmas
+pub mod ValidCells
+pub mod ValidLines
+pub mod ValidCodes
+pub mod ValidPlans
+pub mod ArrangementLemmas
+pub mod RoomLemmas
+pub mod HalfRoom

@@ -1,5 +1,5 @@
 -- The lengths of registers that have no mask.
-use Rattle.std.proofs.Common.{arith, ◌≡◌, ℕ, ◌<◌, ◌≤◌, ◌+◌, Bool, true, false, List, ◌++◌, ◌∷◌, [], length, refl, sym, subst, ◌∙◌, inl, inr, Contains, slice_index, nat_lt, ◌==◌}
+use Rattle.std.proofs.Common.{arith, ◌≡◌, ℕ, ◌<◌, ◌≤◌, ◌+◌, Bool, true, false, List, ◌++◌, ◌∷◌, [], length, refl, sym, subst, ◌∙◌, inl, Contains, slice_index, nat_lt, ◌==◌}
 use Rattle.std.specs.List.{AllByRecursion}
 use Rattle.std.proofs.lemmas.Bool.Decides.{nat_tests}
 use Rattle.bb_base.specs.Firsts.{IsLeast}
@@ -73,6 +73,3 @@ masks_each registers masks some few h = to_all (λ (g : RegisterValue). IsLeast 
 -- the degree lacks a mask, or else a register does
 pub degree_first : (degree cells : ℕ) (registers : List RegisterValue) → cells ≡ degree → ((mask : ℕ) → IsFullMask degree mask → ⊥) → IsFirstUnmasked degree registers cells
 degree_first degree cells registers same none = inl (same, λ m. none m.0 m.1)
-
-pub register_first : (degree mask cells : ℕ) (registers : List RegisterValue) → IsLeast (IsFullMask degree) mask → IsLeast (IsUnmasked registers) cells → IsFirstUnmasked degree registers cells
-register_first degree mask cells registers full least = inr ((mask, full.holds), least)

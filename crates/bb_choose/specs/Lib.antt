@@ -1,3 +1,4 @@
 pub mod Arranged
 pub mod Choice
 pub mod Coding
+pub mod Enough

@@ -1,6 +1,8 @@
 //! The registers that are chosen for a netlist: its cuts, the cells that it needs with them, and these in registers.
 
-ghost use Rattle.std.specs.Prelude.{◌≡◌, ◌≤◌, ℕ, length, IfOk, IsErrOf};
+ghost use Rattle.std.specs.Prelude.{◌≡◌, ◌≤◌, ℕ, length, nat_eq, IfOk, OnOk, IsErrOf};
+ghost use Rattle.std.specs.List.{AllByRecursion};
+ghost use Rattle.std.specs.Set.{distinct_count};
 ghost use Rattle.bb_netlist.specs.Net.{IsNetlist, driven};
 ghost use Rattle.bb_netlist.specs.Order.{IsOrder};
 ghost use Rattle.bb_segment.specs.Cuts.{IsFirstWide};
@@ -26,6 +28,7 @@ pub(crate) fn arranged(
     requires settings { AreInRange settings.now }
     ensures arranged { IfOk result (IsArranged netlist.now order.now settings.now) }
     ensures ready { IfOk result (IsReady (length (driven netlist.now))) }
+    ensures narrow { OnOk result (AllByRecursion (λ g. distinct_count nat_eq g.ins ≤ settings.now.width) netlist.now.gates) }
     ensures wide { (gate inputs width : ℕ) → IsErrOf result (CutFault.GateTooWide gate inputs width) → IsFirstWide netlist.now.gates width gate inputs }
     ensures width { (gate inputs width : ℕ) → IsErrOf result (CutFault.GateTooWide gate inputs width) → width ≡ settings.now.width }
 {

@@ -1,6 +1,8 @@
 //! The plan that is chosen for a netlist.
 
-ghost use Rattle.std.specs.Prelude.{◌≡◌, ◌+◌, ◌*◌, ◌^◌, ◌≤◌, ℕ, length, IfOk, IfErr, IsErrOf};
+ghost use Rattle.std.specs.Prelude.{◌≡◌, ◌+◌, ◌*◌, ◌^◌, ◌≤◌, ℕ, length, nat_eq, IfOk, OnOk, IfErr, IsErrOf};
+ghost use Rattle.std.specs.List.{AllByRecursion};
+ghost use Rattle.std.specs.Set.{distinct_count};
 ghost use Rattle.bb_base.specs.Firsts.{IsLeast};
 ghost use Rattle.bb_netlist.specs.Net.{driven};
 ghost use Rattle.bb_netlist.specs.Order.{IsOrder};
@@ -165,6 +167,7 @@ pub fn choose(
     ensures chosen { IfOk result (λ chosen. IsChosenPlan netlist.now order.now settings.now chosen.plan) }
     ensures cycles { IfOk result (λ chosen. chosen.cycles ≡ 1 + 2 * length chosen.plan.sessions * 2 ^ chosen.plan.degree) }
     ensures within { IfOk result (λ chosen. chosen.cycles ≤ settings.now.max_cycles) }
+    ensures narrow { OnOk result (AllByRecursion (λ g. distinct_count nat_eq g.ins ≤ settings.now.width) netlist.now.gates) }
     ensures gate { (gate inputs width : ℕ) → IsErrOf result (ChoiceFault.GateTooWide gate inputs width) → (width ≡ settings.now.width) × IsFirstWide netlist.now.gates width gate inputs }
     ensures degree { (max : ℕ) (need : NeedValue) → IsErrOf result (ChoiceFault.DegreeLimit max need) → OfArranged netlist.now order.now settings.now (λ grouped. LacksDegree settings.now grouped max need) }
     ensures limit { (needed limit : ℕ) → IsErrOf result (ChoiceFault.CycleLimit needed limit) → OfArranged netlist.now order.now settings.now (λ grouped. LacksCycles settings.now grouped needed limit) }

@@ -1,1 +1,1 @@
-pub mod SegmentLemmas
+pub mod Variables

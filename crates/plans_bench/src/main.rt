@@ -1,19 +1,24 @@
-//! Times what is chosen for a netlist, and the judgement on it: the netlist's canonical text stands on standard input, and the width and
-//! the length of a register are the words of the call.
+//! Times the choice of a plan for a netlist, the judgement on it, the weaving of its self-test, and its signatures: the netlist's canonical
+//! text stands on standard input, and the width and the length of a register are the words of the call.
 #![tactic(auto)]
 
-ghost use Rattle.std.specs.Prelude.{◌≡◌, ◌≤◌, ◌<◌, ◌+◌, ◌*◌, ◌^◌, IfSome, length};
+ghost use Rattle.std.specs.Prelude.{◌≡◌, ◌≤◌, true, IfSome, length};
+ghost use Rattle.bb_base.specs.Variables.{bit_count};
 ghost use Rattle.bb_netlist.specs.Net.{driven};
 ghost use Rattle.bb_netlist.specs.Order.{IsOrder};
+ghost use Rattle.bb_rules.specs.Valid.{IsValidFor};
+ghost use Rattle.bb_choose.specs.Arranged.{AreInRange};
+ghost use Rattle.bb_ctl.specs.OwnNames.{HasOwnNames};
 
-mod coded;
-
-use crate::coded::coded;
+use bb_base::is_reserved;
 use bb_canon::read_canonical;
-use bb_cone::cuts;
-use bb_net::{Named, Netlist, Order, find_order};
-use bb_plan::{Plan, PlanFault, Session, validate};
-use bb_reg::{Draft, Grouped, cells, group, sessions};
+use bb_choose::{Settings, choose};
+use bb_fault::range_width;
+use bb_net::Named;
+use bb_netlist::{Order, find_order};
+use bb_plan::{Plan, Valid, validate};
+use bb_sign::signatures;
+use bb_weave::weave;
 use std::alloc::Global;
 use std::rt::Env;
 use std::time::Instant;
@@ -32,133 +37,132 @@ fn read(alloc: Global, text: &str) -> Option<(Named, Order)>
     }
 }
 
-/// When a step begins; none where the clock can't be read.
-fn now(rt: &HostRuntime) -> Option<Instant> {
-    match Instant::now(rt) {
-        Ok(start) => Some(start),
-        Err(_) => None,
-    }
-}
-
 /// Prints how long a step took.
-fn tell(rt: &HostRuntime, step: &str, start: Option<Instant>) -> anyhow::Result<()> {
-    let Some(start) = start else {
-        return Ok(());
-    };
+fn tell(rt: &HostRuntime, step: &str, start: Instant) -> anyhow::Result<()> {
     let took = start.elapsed(rt)?.as_micros();
     eprintln!(rt; "{step} {took} microseconds")?;
     Ok(())
 }
 
-/// The same; a line that can't be printed is left out.
-fn note(rt: &HostRuntime, step: &str, start: Option<Instant>) {
-    match tell(rt, step, start) {
-        Ok(()) | Err(_) => {}
+/// Whether no variable is named as those that are added.
+fn has_own_names(named: &Named) -> bool
+    ensures { result ≡ true → HasOwnNames named.now }
+{
+    'variables: for number in 0..named.variables() {
+        let (name, _) = named.variable(number);
+        if is_reserved(name) {
+            return false;
+        }
+    }
+    true
+}
+
+/// Whether variables have at most 2,097,152 bits together.
+fn has_few_bits(named: &Named) -> bool
+    ensures { result ≡ true → bit_count named.now.variables ≤ 2097152 }
+{
+    let mut bits: u64 = 0;
+    'variables: for number in 0..named.variables() {
+        let (_, variable) = named.variable(number);
+        bits = bits.saturating_add(range_width(variable.range));
+        if bits > 2_097_152 {
+            return false;
+        }
+    }
+    true
+}
+
+/// Weaves a plan's self-test into its netlist.
+fn weave_in(rt: &HostRuntime, named: &Named, valid: &Valid) -> anyhow::Result<()>
+    requires { IsValidFor named.now.netlist valid.now }
+{
+    if !has_own_names(named) {
+        return Ok(());
+    }
+    if !has_few_bits(named) {
+        return Ok(());
+    }
+    let start = Instant::now(rt)?;
+    match weave(rt.alloc(), named, valid) {
+        Ok(_) => tell(rt, "weave", start),
+        Err(_) => Ok(()),
     }
 }
 
-/// The cells of a netlist with its cuts.
-fn drafted(rt: &HostRuntime, netlist: &Netlist, order: &Order, width: u32) -> Option<Draft>
-    requires order { IsOrder netlist.now.gates order.now }
-    requires width { width ≤ 12 }
-    ensures leaves { IfSome result (λ draft. length draft.leaves ≡ length draft.observers) }
-    ensures few { IfSome result (λ draft. length draft.sources + length draft.observers ≤ 2 * length (driven netlist.now)) }
+/// The signatures of a plan, where gates times states are at most 2^28.
+fn sign(rt: &HostRuntime, named: &Named, order: &Order, valid: &Valid) -> anyhow::Result<()>
+    requires order { IsOrder named.now.netlist.gates order.now }
+    requires valid { IsValidFor named.now.netlist valid.now }
 {
-    let start = now(rt);
-    let Ok(cut) = cuts(rt.alloc(), netlist, order, width) else {
-        return None;
-    };
-    note(rt, "cuts", start);
-    let start = now(rt);
-    let Ok(draft) = cells(rt.alloc(), netlist, order, &cut) else {
-        return None;
-    };
-    note(rt, "cells", start);
-    Some(draft)
-}
-
-/// The registers of a draft and their sessions.
-fn scheduled(rt: &HostRuntime, draft: &Draft, most: u32) -> Option<(Grouped, Vec<Session>)>
-    requires leaves { length draft.now.leaves ≡ length draft.now.observers }
-    requires few { length draft.now.sources + length draft.now.observers < 2 ^ 32 }
-    requires least { 1 ≤ most }
-    requires most { most ≤ 16 }
-{
-    let start = now(rt);
-    let Ok(grouped) = group(rt.alloc(), draft, most) else {
-        return None;
-    };
-    note(rt, "group", start);
-    let start = now(rt);
-    let Ok(sessions) = sessions(rt.alloc(), &grouped) else {
-        return None;
-    };
-    note(rt, "sessions", start);
-    Some((grouped, sessions))
-}
-
-/// The plan that is chosen for a netlist.
-fn chosen(rt: &HostRuntime, netlist: &Netlist, order: &Order, width: u32, most: u32) -> Option<Plan>
-    requires order { IsOrder netlist.now.gates order.now }
-    requires few { length (driven netlist.now) ≤ 2097152 }
-    requires width { width ≤ 12 }
-    requires least { 1 ≤ most }
-    requires most { most ≤ 16 }
-{
-    let draft = drafted(rt, netlist, order, width)?;
-    let (grouped, sessions) = scheduled(rt, &draft, most)?;
-    let start = now(rt);
-    let plan = coded(rt.alloc(), netlist.nets(), width, &grouped, sessions)?;
-    note(rt, "columns", start);
-    Some(plan)
-}
-
-/// How large a plan is, and the fault that it is judged to have.
-#[derive(Drop)]
-struct Outcome {
-    cells: u64,
-    registers: usize,
-    sessions: usize,
-    degree: u32,
-    fault: Option<PlanFault>,
-}
-
-/// Judges a plan.
-fn judged(rt: &HostRuntime, netlist: &Netlist, order: &Order, plan: Plan) -> Outcome
-    requires { IsOrder netlist.now.gates order.now }
-{
-    let cells = plan.cells();
-    let registers = plan.registers.len();
-    let sessions = plan.sessions.len();
-    let degree = plan.degree;
-    let start = now(rt);
-    let fault = match validate(rt.alloc(), netlist, order, plan) {
-        Ok(_) => None,
-        Err(fault) => Some(fault),
-    };
-    note(rt, "validate", start);
-    Outcome {
-        cells,
-        registers,
-        sessions,
-        degree,
-        fault,
-    }
-}
-
-/// Chooses and judges a plan for a netlist's text; none where there is no netlist or no plan.
-fn measured(rt: &HostRuntime, text: &str, width: u32, most: u32) -> Option<Outcome>
-    requires width { width ≤ 12 }
-    requires least { 1 ≤ most }
-    requires most { most ≤ 16 }
-{
-    let (named, order) = read(rt.alloc(), text)?;
     let netlist = named.netlist();
-    if netlist.nets() > 2_097_152 {
-        return None;
+    let degree = valid.plan().degree;
+    if degree > 20 || netlist.gates().len() > 1usize << (28 - degree) {
+        return Ok(());
     }
-    let plan = chosen(rt, netlist, &order, width, most)?;
-    Some(judged(rt, netlist, &order, plan))
+    let start = Instant::now(rt)?;
+    match signatures(rt.alloc(), netlist, order, valid) {
+        Ok(_) => tell(rt, "signatures", start),
+        Err(_) => Ok(()),
+    }
+}
+
+/// Judges a plan, and makes what it is for.
+fn judge(rt: &HostRuntime, named: &Named, order: &Order, plan: Plan) -> anyhow::Result<()>
+    requires { IsOrder named.now.netlist.gates order.now }
+{
+    let degree = plan.degree;
+    let start = Instant::now(rt)?;
+    match validate(rt.alloc(), named.netlist(), order, plan) {
+        Ok(valid) => {
+            tell(rt, "validate", start)?;
+            weave_in(rt, named, &valid)?;
+            sign(rt, named, order, &valid)?;
+            println!(rt; "valid at degree {degree}")?;
+        }
+        Err(fault) => println!(rt; "{fault:?}")?,
+    }
+    Ok(())
+}
+
+/// Chooses a plan and judges it.
+fn plan_for(
+    rt: &HostRuntime,
+    named: &Named,
+    order: &Order,
+    settings: &Settings,
+) -> anyhow::Result<()>
+    requires order { IsOrder named.now.netlist.gates order.now }
+    requires few { length (driven named.now.netlist) ≤ 2097152 }
+    requires settings { AreInRange settings.now }
+{
+    let start = Instant::now(rt)?;
+    match choose(rt.alloc(), named.netlist(), order, settings) {
+        Ok(chosen) => {
+            tell(rt, "choose", start)?;
+            let cells = chosen.plan.cells();
+            let registers = chosen.plan.registers.len();
+            let sessions = chosen.plan.sessions.len();
+            print!(rt; "cells {cells}, registers {registers}, sessions {sessions}: ")?;
+            judge(rt, named, order, chosen.plan)?;
+        }
+        Err(fault) => println!(rt; "{fault:?}")?,
+    }
+    Ok(())
+}
+
+/// Measures what is made for a netlist's text.
+fn measure(rt: &HostRuntime, text: &str, settings: &Settings) -> anyhow::Result<()>
+    requires { AreInRange settings.now }
+{
+    let Some((named, order)) = read(rt.alloc(), text) else {
+        println!(rt; "no netlist")?;
+        return Ok(());
+    };
+    if named.netlist().nets() > 2_097_152 {
+        println!(rt; "too many nets")?;
+        return Ok(());
+    }
+    plan_for(rt, &named, &order, settings)
 }
 
 /// The numbers that the words behind the program's name are.
@@ -170,44 +174,31 @@ fn numbers_of(rt: &(impl Env + AllocGlobal)) -> anyhow::Result<Vec<u32>> {
     Ok(numbers)
 }
 
-/// The width and the length that the words say, if they are in range.
-fn sizes_of(numbers: &[u32]) -> Option<(u32, u32)>
-    ensures { IfSome result (λ sizes. (sizes.0 ≤ 12) × (1 ≤ sizes.1) × (sizes.1 ≤ 16)) }
+/// The settings of this width and this length of a register, if they are in range.
+fn settings_of(numbers: &[u32]) -> Option<Settings>
+    ensures { IfSome result AreInRange }
 {
     match numbers {
-        [width, most] if *width <= 12 && 1 <= *most && *most <= 16 => Some((*width, *most)),
+        [width, register] if 2 <= *width && *width <= 12 && 1 <= *register && *register <= 16 => {
+            Some(Settings {
+                width: *width,
+                min_degree: 1,
+                max_degree: 20,
+                max_cycles: 1_099_511_627_776,
+                register: *register,
+            })
+        }
         _ => None,
     }
 }
 
-/// The text on standard input.
-fn text_of(rt: &HostRuntime) -> anyhow::Result<String> {
-    Ok(io::read_to_string(rt.alloc(), rt.reader())?)
-}
-
-/// Prints what was judged.
-fn print(rt: &HostRuntime, judged: &Outcome) -> anyhow::Result<()> {
-    let cells = judged.cells;
-    let registers = judged.registers;
-    let sessions = judged.sessions;
-    print!(rt; "cells {cells}, registers {registers}, sessions {sessions}: ")?;
-    match judged.fault {
-        None => println!(rt; "valid at degree {}", judged.degree)?,
-        Some(fault) => println!(rt; "{fault:?}")?,
-    }
-    Ok(())
-}
-
 fn main(rt: HostRuntime) -> anyhow::Result<()> {
-    let Some((width, most)) = sizes_of(&numbers_of(&rt)?) else {
+    let Some(settings) = settings_of(&numbers_of(&rt)?) else {
         println!(rt;
-            "usage: plans_bench WIDTH LENGTH < TEXT (a width is at most 12, a length 1 to 16)"
+            "usage: plans_bench WIDTH LENGTH < TEXT (a width is 2 to 12, a length 1 to 16)"
         )?;
         return Ok(());
     };
-    match measured(&rt, text_of(&rt)?.as_str(), width, most) {
-        Some(judged) => print(&rt, &judged)?,
-        None => println!(rt; "no plan")?,
-    }
-    Ok(())
+    let text = io::read_to_string(rt.alloc(), rt.reader())?;
+    measure(&rt, text.as_str(), &settings)
 }

@@ -1,11 +1,13 @@
-use Rattle.std.proofs.Common.{arith, ◌≡◌, ℕ, false, List, length, sym, subst}
+use Rattle.std.proofs.Common.{arith, ◌≡◌, ℕ, ◌≤◌, false, List, length, nat_eq, sym, subst}
 use Rattle.bb_netlist.specs.Net.{driven}
 use Rattle.bb_segment.specs.Paths.{Behind, is_free}
 use Rattle.bb_segment.specs.Support.{AreLeaves}
 use Rattle.bb_segment.specs.Cuts.{is_stop_with}
-use Rattle.bb_base.proofs.Contained.{of_all}
+use Rattle.bb_base.proofs.Contained.{of_all, by_place}
 use Rattle.bb_reg.specs.Draft.{AreCells}
 use Rattle.std.specs.List.Sorted.{IsStrictlyIncreasing}
+use Rattle.std.specs.Set.{distinct_count}
+use Rattle.bb_netlist.specs.Net.{Gate}
 use Rattle.bb_chosen.specs.ChosenPlan.{AreCutsOf}
 use Rattle.bb_choose.specs.Coding.{IsReady}
 use Rattle.bb_choose.proofs.ReadyLemmas.{ready}
@@ -39,3 +41,6 @@ returns-clause-ready c =
     let nets = c.requires.few in
     subst (IsReady (length (driven a))) (sym c.in_ok-group.ensures.grouped)
     (ready a cuts draft most cuts_are are c.in_ok-draft.ensures.leaves (omega (arith, few, nets)) c.requires.settings.register_least c.requires.settings.register_most)
+
+pub returns-clause-narrow : goal.returns-clause-narrow
+returns-clause-narrow c = by_place (λ (g : Gate ℕ). distinct_count nat_eq g.ins ≤ c.args.settings.now.width) c.args.netlist.now.gates c.in_ok-cut.ensures.narrow
