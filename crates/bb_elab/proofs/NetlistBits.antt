@@ -1,5 +1,5 @@
 -- In every cycle of the netlist that a text denotes its statements hold, where the clock's nets have one bit.
-use Rattle.std.proofs.Common.{arith, ◌≡◌, ℕ, zero, suc, ◌+◌, ◌-◌, ◌<◌, ◌≤◌, nat_eq, nat_lt, not, Bool, true, false, cond, List, [], ◌∷◌, ◌++◌, map, filter, length, slice_get, refl, sym, ap, ◌∙◌, subst, if◌then◌else◌}
+use Rattle.std.proofs.Common.{arith, ◌≡◌, ℕ, zero, suc, ◌+◌, ◌<◌, ◌≤◌, nat_eq, not, Bool, true, false, cond, List, [], ◌∷◌, ◌++◌, map, filter, length, slice_get, refl, sym, ap, ◌∙◌, subst, if◌then◌else◌}
 use Rattle.std.proofs.lemmas.Bool.Decides.{nat_tests}
 use Rattle.std.proofs.lemmas.List.{get_or-map}
 use Rattle.std.proofs.lemmas.List.Elements.{recursion_from_All}
@@ -9,10 +9,9 @@ use Rattle.std.specs.Prelude.{Option, Some, None, find, count_by}
 use Rattle.std.specs.List.{AllByRecursion}
 use Rattle.bb_base.specs.declared.operator.Op.{Op}
 use Rattle.bb_base.specs.declared.operator.Op.TheVariants as op
-use Rattle.bb_base.specs.declared.variable.BitName.{BitName}
 use Rattle.bb_base.specs.Operators.{IsArity, op_gives}
-use Rattle.bb_base.specs.Variables.{Entry, Bit, is_input, range_width, bit_in, bit_of, bit_count}
-use Rattle.bb_base.proofs.Lists.{all_map, get_front}
+use Rattle.bb_base.specs.Variables.{Entry, Bit, is_input, bit_of}
+use Rattle.bb_base.proofs.Lists.{all_map}
 use Rattle.bb_netlist.specs.Net.{Gate, Flop, HasArity, renamed_gate, renamed_flop}
 use Rattle.bb_netlist.specs.Run.{Meets}
 use Rattle.bb_net.specs.Named.{Named, net_text, design_of}
@@ -32,6 +31,7 @@ use Rattle.bb_assemble.proofs.KeptLaws.{counted, clock_is_input}
 use Rattle.bb_drive.proofs.BitBounds.{bits_in}
 use Rattle.bb_assemble.proofs.KeptNets.{all_placed, at_place, has_mapped, IsFineWork, IsKept, few_drivers, parts_counted, gate_kept, flop_kept}
 use Rattle.bb_assemble.proofs.NumberedNets.{bit_placed}
+use Rattle.bb_targets.proofs.Twice.{text_front}
 use Rattle.bb_elab.specs.Outcome.{first_fault, denoted, variables_in, work_in}
 use Rattle.bb_elab.proofs.DenotedLaws.{fine_work, fine_parts, arities}
 use Rattle.bb_meaning.specs.Statements.{StatementHolds}
@@ -241,34 +241,6 @@ module _ (name : List ℕ) (vars : List Entry) (w : Work) (fine : IsFineWork var
           let held = flop_kept vars w fine i f at in
           let taken = at_place (λ (f : Clocked). next (net_text n (place_among (kept vars w) f.q)) ≡ v (net_text n (place_among (kept vars w) f.d))) w.flops i f thrice at in
           sym (ap next (named_bit f.q held.0)) ∙ (taken ∙ ap v (named_bit f.d held.1))
-
--- names ------------------------------------------------------------------------
-
--- a bit of the first variables has its name among all
-record IsFront (number : ℕ) (vs ws : List Entry) (b : ℕ) : Type 0 where
-  same : bit_name number (vs ++ ws) b ≡ bit_name number vs b
-  small : (bit_name number vs b).variable < number + length vs
-
-name_front : (number : ℕ) (vs ws : List Entry) (b : ℕ) → b < bit_count vs → IsFront number vs ws b
-name_front number [] ws b h = absurd (omega (arith, h))
-name_front number (v ∷ vs) ws b h = go (nat_lt b (range_width v.1.range)) refl (λ less. name_front (suc number) vs ws (b - range_width v.1.range) less)
-  where
-    go : (t : Bool) → nat_lt b (range_width v.1.range) ≡ t → (b - range_width v.1.range < bit_count vs → IsFront (suc number) vs ws (b - range_width v.1.range)) → IsFront number (v ∷ vs) ws b
-    go true e more =
-        let here : bit_name number (v ∷ vs) b ≡ record { variable = number; place = b } = ap (λ t. cond t (record { variable = number; place = b }) (bit_name (suc number) vs (b - range_width v.1.range))) e in
-        let there : bit_name number (v ∷ vs ++ ws) b ≡ record { variable = number; place = b } = ap (λ t. cond t (record { variable = number; place = b }) (bit_name (suc number) (vs ++ ws) (b - range_width v.1.range))) e in
-        record { same = there ∙ sym here; small = omega (arith, ap (λ (x : BitName). x.variable) here) }
-    go false e more =
-        let past : range_width v.1.range ≤ b = grind (arith, nat_tests, e) in
-        let rest = more (omega (arith, h, past)) in
-        let here : bit_name number (v ∷ vs) b ≡ bit_name (suc number) vs (b - range_width v.1.range) = ap (λ t. cond t (record { variable = number; place = b }) (bit_name (suc number) vs (b - range_width v.1.range))) e in
-        let there : bit_name number (v ∷ vs ++ ws) b ≡ bit_name (suc number) (vs ++ ws) (b - range_width v.1.range) = ap (λ t. cond t (record { variable = number; place = b }) (bit_name (suc number) (vs ++ ws) (b - range_width v.1.range))) e in
-        record { same = there ∙ (rest.same ∙ sym here); small = omega (arith, rest.small, ap (λ (x : BitName). x.variable) here) }
-
-text_front : (vs ws : List Entry) (b : ℕ) → b < bit_count vs → bit_text (vs ++ ws) b ≡ bit_text vs b
-text_front vs ws b h =
-    let f = name_front 0 vs ws b h in
-    ap (bit_of (vs ++ ws)) f.same ∙ ap (λ o. bit_in o (bit_name 0 vs b).place) (get_front vs ws (bit_name 0 vs b).variable (omega (arith, f.small)))
 
 -- the statements of a text hold in every cycle of the netlist that it denotes
 pub netlist-means :

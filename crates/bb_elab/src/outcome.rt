@@ -26,6 +26,8 @@ use bb_gates::work_of;
 use bb_net::{Named, Order, OrderFault, find_order};
 use bb_netlist::NetId;
 use bb_parse::Module;
+use bb_scope::Scope;
+use bb_targets::twice_fault;
 use bb_width::{Bound, checked};
 use indexmap::IndexMap;
 use std::alloc::{AllocError, Global};
@@ -102,6 +104,24 @@ fn made_in(
     Ok((vars, work))
 }
 
+/// The fault of the first bit of a module's variables that has two drivers, found before any gate is made.
+///
+/// The count of bits and made nets doesn't bound how often bits are driven; once no bit of a variable has two drivers, it does.
+fn driven_once(
+    alloc: Global,
+    own: bool,
+    module: &Module,
+    scope: &Scope,
+    uses: &[usize],
+) -> Result<(), ElabFault>
+    requires scope { scope.now ≡ variables «module».now }
+    requires uses { AreNext scope.now (flat_map item_names «module».now.items) uses.now }
+    requires fine { text_fault own «module».now ≡ None }
+    ensures { IfErr result (λ fault. fault ≢ NoMemory → net_fault (variables_in «module».now) (work_in «module».now) ≡ Some fault) }
+{
+    twice_fault(alloc, scope, uses, module.items.as_slice())
+}
+
 /// The named netlist of a module whose text was checked, or the first fault of drivers and clocks.
 fn named_in(alloc: Global, own: bool, module: &Module, bound: Bound) -> Result<Named, ElabFault>
     requires sound { IsSoundModule «module».now }
@@ -113,6 +133,7 @@ fn named_in(alloc: Global, own: bool, module: &Module, bound: Bound) -> Result<N
     ensures fine { OnOk result (net_fault (variables_in «module».now) (work_in «module».now) ≡ None) }
     ensures fault { IfErr result (λ fault. fault ≢ NoMemory → net_fault (variables_in «module».now) (work_in «module».now) ≡ Some fault) }
 {
+    driven_once(alloc, own, module, &bound.scope, &bound.uses)?;
     let (vars, work) = made_in(alloc, module, bound)?;
     let name = module.name.copy(alloc)?;
     wired(alloc, name, vars, &work)

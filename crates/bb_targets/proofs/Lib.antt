@@ -1,0 +1,5 @@
+pub mod MarkLaws
+pub mod Adding
+pub mod AddedSteps
+pub mod AddedCells
+pub mod Twice
