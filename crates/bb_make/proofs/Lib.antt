@@ -1,0 +1,4 @@
+pub mod BoundLemmas
+pub mod FileLemmas
+pub mod ChosenLemmas
+pub mod WovenLemmas
