@@ -1,4 +1,4 @@
-//! A small benchmark of ten gates and three flip-flops in two forms, and what is made of it.
+//! A small benchmark of ten gates and three flip-flops in two forms, and the schedule and the certificate that are made of it.
 
 /// Its gates as primitives.
 pub(crate) const PLAIN: &str = "module s (clk, G0, G1, G2, G3, G17);\n\
@@ -52,90 +52,4 @@ pub(crate) const MADE: &str = "/* made */\n\
     \\$_DFF_P_  _11_ (.C(\\u.clk ), .D(G11), .Q(G6));\n\
     \\$_DFF_P_  _12_ (.C(\\u.clk ), .D(G13), .Q(G7));\n\
     assign \\u.clk  = clk;\n\
-    endmodule\n";
-
-/// The thin netlist up to the original's wires, to which `MADE` adds one.
-pub(crate) const FRONT: &str =
-    "module s (clk, G0, G1, G2, G3, G17, bt_test, bt_init, bt_so, bt_done);\n\
-    input clk;\n\
-    input G0;\n\
-    input G1;\n\
-    input G2;\n\
-    input G3;\n\
-    output G17;\n\
-    input bt_test;\n\
-    input bt_init;\n\
-    output bt_so;\n\
-    output bt_done;\n\
-    wire G5;\n\
-    wire G6;\n\
-    wire G7;\n\
-    wire G8;\n\
-    wire G9;\n\
-    wire G10;\n\
-    wire G11;\n\
-    wire G12;\n\
-    wire G13;\n\
-    wire G14;\n\
-    wire G15;\n\
-    wire G16;\n";
-
-/// And what follows them.
-pub(crate) const BACK: &str = "wire bt_nt;\n\
-    wire bt_d0;\n\
-    wire bt_rt0;\n\
-    wire bt_rn0;\n\
-    wire bt_r0;\n\
-    wire bt_d1;\n\
-    wire bt_rt1;\n\
-    wire bt_rn1;\n\
-    wire bt_r1;\n\
-    wire bt_d2;\n\
-    wire bt_rt2;\n\
-    wire bt_rn2;\n\
-    wire bt_r2;\n\
-    wire bt_d3;\n\
-    wire bt_rt3;\n\
-    wire bt_rn3;\n\
-    wire bt_r3;\n\
-    wire bt_q0;\n\
-    wire bt_q1;\n\
-    wire bt_q2;\n\
-    wire bt_q3;\n\
-    not (G14, bt_r0);\n\
-    not (G17, G11);\n\
-    and (G8, G14, G6);\n\
-    or (G15, G12, G8);\n\
-    or (G16, bt_r3, G8);\n\
-    nand (G9, G16, G15);\n\
-    nor (G10, G14, G11);\n\
-    nor (G11, G5, G9);\n\
-    nor (G12, bt_r1, G7);\n\
-    nor (G13, bt_r2, G12);\n\
-    not (bt_nt, bt_test);\n\
-    assign bt_done = 1'b0;\n\
-    buf (bt_so, bt_q3);\n\
-    and (bt_d0, bt_test, bt_init);\n\
-    and (bt_rt0, bt_test, bt_q0);\n\
-    and (bt_rn0, bt_nt, G0);\n\
-    or (bt_r0, bt_rt0, bt_rn0);\n\
-    and (bt_d1, bt_test, bt_q0);\n\
-    and (bt_rt1, bt_test, bt_q1);\n\
-    and (bt_rn1, bt_nt, G1);\n\
-    or (bt_r1, bt_rt1, bt_rn1);\n\
-    and (bt_d2, bt_test, bt_q1);\n\
-    and (bt_rt2, bt_test, bt_q2);\n\
-    and (bt_rn2, bt_nt, G2);\n\
-    or (bt_r2, bt_rt2, bt_rn2);\n\
-    and (bt_d3, bt_test, bt_q2);\n\
-    and (bt_rt3, bt_test, bt_q3);\n\
-    and (bt_rn3, bt_nt, G3);\n\
-    or (bt_r3, bt_rt3, bt_rn3);\n\
-    dff bt_f0 (clk, G5, G10);\n\
-    dff bt_f1 (clk, G6, G11);\n\
-    dff bt_f2 (clk, G7, G13);\n\
-    dff bt_f3 (clk, bt_q0, bt_d0);\n\
-    dff bt_f4 (clk, bt_q1, bt_d1);\n\
-    dff bt_f5 (clk, bt_q2, bt_d2);\n\
-    dff bt_f6 (clk, bt_q3, bt_d3);\n\
     endmodule\n";

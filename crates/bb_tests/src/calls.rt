@@ -1,34 +1,13 @@
-//! The call `bilbo` over files in memory: what it writes, what it says, and how it ends.
+//! The call `bilbo` over files in memory: what it says, and how it ends.
 
-use crate::benchmark::{BACK, FRONT, MADE, PLAIN};
+use crate::half::{HALF, NETLIST};
 use bb_edge::{Fail, MemSink, MemStore, Step};
 use bb_top::bilbo;
 use std::alloc::{AllocError, Global};
 use std::test::Fail as TestFail;
 
-/// A half adder.
-const HALF: &str = "module half (a, b, s, c);\n\
-    input a;\ninput b;\noutput s;\noutput c;\n\
-    xor (s, a, b);\nand (c, a, b);\n\
-    endmodule\n";
-
-/// Its thin netlist.
-const THIN: &str = "module half (a, b, s, c, bt_clk, bt_test, bt_init, bt_so, bt_done);\n\
-    input a;\ninput b;\noutput s;\noutput c;\n\
-    input bt_clk;\ninput bt_test;\ninput bt_init;\noutput bt_so;\noutput bt_done;\n\
-    wire bt_nt;\n\
-    wire bt_d0;\nwire bt_rt0;\nwire bt_rn0;\nwire bt_r0;\n\
-    wire bt_d1;\nwire bt_rt1;\nwire bt_rn1;\nwire bt_r1;\n\
-    wire bt_q0;\nwire bt_q1;\n\
-    xor (s, bt_r0, bt_r1);\nand (c, bt_r0, bt_r1);\n\
-    not (bt_nt, bt_test);\nassign bt_done = 1'b0;\nbuf (bt_so, bt_q1);\n\
-    and (bt_d0, bt_test, bt_init);\nand (bt_rt0, bt_test, bt_q0);\nand (bt_rn0, bt_nt, a);\nor (bt_r0, bt_rt0, bt_rn0);\n\
-    and (bt_d1, bt_test, bt_q0);\nand (bt_rt1, bt_test, bt_q1);\nand (bt_rn1, bt_nt, b);\nor (bt_r1, bt_rt1, bt_rn1);\n\
-    dff bt_f0 (bt_clk, bt_q0, bt_d0);\ndff bt_f1 (bt_clk, bt_q1, bt_d1);\n\
-    endmodule\n";
-
 /// The words of a text, which a blank parts.
-fn words_of(alloc: Global, text: &str) -> Result<Vec<String>, AllocError> {
+pub(crate) fn words_of(alloc: Global, text: &str) -> Result<Vec<String>, AllocError> {
     let mut words = Vec::new(alloc);
     for word in text.split(' ') {
         words.push(String::from_str(alloc, word)?)?;
@@ -63,22 +42,6 @@ fn compiles(
 ) -> Result<(u8, bool, bool), AllocError> {
     let words = words_of(alloc, "compile half.v out")?;
     ends(alloc, &words, text, (Vec::new(alloc), None), (line, file))
-}
-
-#[test]
-fn each_input_gets_a_bypassed_cell(rt: HostRuntime) -> Result<(), TestFail> {
-    let rows = [
-        (HALF, THIN, "", ""),
-        (PLAIN, FRONT, "", BACK),
-        // The same module in another form has one wire more.
-        (MADE, FRONT, "wire \\u.clk ;\n", BACK),
-    ];
-    for (text, front, wire, back) in rows {
-        let thin = format!(in rt.alloc(); "{front}{wire}{back}")?;
-        let outcome = compiles(rt.alloc(), text.as_bytes(), "done\n", thin.as_str())?;
-        assert_eq!(rt; outcome, (0, true, true), "{text}");
-    }
-    Ok(())
 }
 
 /// Whether a text is refused with these words, and nothing is written.
@@ -236,7 +199,7 @@ fn the_first_fault_is_answered_and_names_the_least_net(rt: HostRuntime) -> Resul
 
 #[test]
 fn a_call_ends_by_its_words_and_its_first_failure(rt: HostRuntime) -> Result<(), TestFail> {
-    let usage = "usage: bilbo compile IN PREFIX\n";
+    let usage = "usage: bilbo compile IN PREFIX [options]\n";
     let whole = "compile half.v out";
     let rows = [
         ("compile", None, None, (2, usage, "old")),
@@ -246,13 +209,28 @@ fn a_call_ends_by_its_words_and_its_first_failure(rt: HostRuntime) -> Result<(),
         ("compile -half.v out", None, None, (2, usage, "old")),
         ("compile half.v -", None, None, (2, usage, "old")),
         ("compile half.v ", None, None, (2, usage, "old")),
+        ("check half.v out", None, None, (2, usage, "old")),
+        ("sample 1 out", None, None, (2, usage, "old")),
+        (
+            "compile half.v out --width=2 --width 2",
+            None,
+            None,
+            (2, usage, "old"),
+        ),
+        (
+            "compile out.v out",
+            None,
+            None,
+            (2, "refused words: same name\n", "old"),
+        ),
+        ("compile out.v out", None, Some(0), (4, "", "old")),
         ("compile half.v", None, Some(0), (4, "", "old")),
         (whole, Some(Step::Begin), None, (3, "", "old")),
         (whole, Some(Step::Piece), None, (3, "", "old")),
         (whole, Some(Step::PutBegin), None, (4, "", "old")),
         (whole, Some(Step::PutPiece), None, (4, "", "")),
-        (whole, Some(Step::PutEnd), None, (4, "", THIN)),
-        (whole, None, Some(0), (4, "", THIN)),
+        (whole, Some(Step::PutEnd), None, (4, "", NETLIST)),
+        (whole, None, Some(0), (4, "", NETLIST)),
     ];
     for (words, step, fail_at, (status, line, file)) in rows {
         let mut fails = Vec::new(rt.alloc());

@@ -10,4 +10,8 @@ mod calls;
 #[cfg(test)]
 mod canonical;
 #[cfg(test)]
+mod compiled;
+#[cfg(test)]
+mod half;
+#[cfg(test)]
 mod outside;

@@ -11,10 +11,10 @@ use Rattle.bb_parse.specs.Texts.{IsModuleOf, HasLexFault, HasParseFault}
 use Rattle.bb_fault.specs.declared.fault.ElabFault.{ElabFault}
 use Rattle.bb_elab.specs.Outcome.{IsOutcome}
 use Rattle.bb_elab.specs.Denotes.{ElaboratesTo}
-use Rattle.bb_top.specs.declared.refusal.Refusal.{Refusal}
-use Rattle.bb_top.specs.declared.refusal.Refusal.TheVariants as refusals
-use Rattle.bb_top.specs.Ends.{IsRefused, ComesTo, file_limit}
-use Rattle.bb_top.proofs.EndLemmas.{refused_unreadable}
+use Rattle.bb_top.specs.declared.refusal.TextRefusal.{TextRefusal}
+use Rattle.bb_top.specs.declared.refusal.TextRefusal.TheVariants as refusals
+use Rattle.bb_top.specs.Reads.{file_limit, IsReadable}
+use Rattle.bb_top.specs.Causes.{IsTextRefused, ComesTo}
 
 -- what is known of texts' flaws and of what modules denote
 pub record TextLaws : Type 0 where
@@ -25,8 +25,15 @@ pub record TextLaws : Type 0 where
   pub not_both : (text : List ℕ) (a : LexFault) (b : ParseFault) → HasLexFault text a → HasParseFault text b → ⊥
   pub one : (own : Bool) (text : List ℕ) (a b : Result Named ElabFault) → ElaboratesTo own text a → ElaboratesTo own text b → a ≡ b
 
+-- a text that is read has no refusal
+pub refused_unreadable : (laws : TextLaws) (refusal : TextRefusal) (text : List ℕ) (a : Named) → IsTextRefused refusal text → length text ≤ file_limit → IsReadable a text → ⊥
+refused_unreadable laws refusals.TooLong text a refused small r = omega (arith, refused, small)
+refused_unreadable laws (refusals.Lex fault) text a refused small r = laws.no_lex text r.syntax_of fault r.spells refused.1
+refused_unreadable laws (refusals.Parse fault) text a refused small r = laws.no_parse text r.syntax_of fault r.spells refused.1
+refused_unreadable laws (refusals.Elab fault) text a refused small r = cc (laws.one false text (Ok a) (Err fault) r refused.1)
+
 -- a text has one refusal
-one_refusal : (laws : TextLaws) (text : List ℕ) (a b : Refusal) → IsRefused a text → IsRefused b text → a ≡ b
+one_refusal : (laws : TextLaws) (text : List ℕ) (a b : TextRefusal) → IsTextRefused a text → IsTextRefused b text → a ≡ b
 one_refusal laws text refusals.TooLong refusals.TooLong h k = refl
 one_refusal laws text refusals.TooLong (refusals.Lex g) h k = absurd (omega (arith, h, k.0))
 one_refusal laws text refusals.TooLong (refusals.Parse g) h k = absurd (omega (arith, h, k.0))
@@ -48,31 +55,31 @@ one_refusal laws text (refusals.Elab f) (refusals.Elab g) h k = ap (λ x. refusa
     same e = cc
 
 -- and one end
-pub one_end : (laws : TextLaws) (text : List ℕ) (a b : Result Named Refusal) → ComesTo text a → ComesTo text b → a ≡ b
+pub one_end : (laws : TextLaws) (text : List ℕ) (a b : Result Named TextRefusal) → ComesTo text a → ComesTo text b → a ≡ b
 one_end laws text (Ok x) (Ok y) h k = ap (λ z. Ok z) (same (laws.one false text (Ok x) (Ok y) h.1 k.1))
   where
     same : ◌≡◌ {A = Result Named ElabFault} (Ok x) (Ok y) → x ≡ y
     same e = cc
-one_end laws text (Ok x) (Err r) h k = absurd (refused_unreadable laws.no_lex laws.no_parse laws.one r text x k h.0 h.1)
-one_end laws text (Err r) (Ok y) h k = absurd (refused_unreadable laws.no_lex laws.no_parse laws.one r text y h k.0 k.1)
+one_end laws text (Ok x) (Err r) h k = absurd (refused_unreadable laws r text x k h.0 h.1)
+one_end laws text (Err r) (Ok y) h k = absurd (refused_unreadable laws r text y h k.0 k.1)
 one_end laws text (Err r) (Err s) h k = ap (λ z. Err z) (one_refusal laws text r s h k)
 
 -- each text has an end
 pub some_end :
     (sound : (m : Module) (text : List ℕ) → IsModuleOf m text → IsSoundModule m) (has : (own : Bool) (m : Module) → IsSoundModule m → (result : Result Named ElabFault) × IsOutcome own m result) (text : List ℕ)
-    → ((m : Module) × IsModuleOf m text) ⊎ ((fault : LexFault) × HasLexFault text fault) ⊎ ((fault : ParseFault) × HasParseFault text fault) → (end : Result Named Refusal) × ComesTo text end
+    → ((m : Module) × IsModuleOf m text) ⊎ ((fault : LexFault) × HasLexFault text fault) ⊎ ((fault : ParseFault) × HasParseFault text fault) → (end : Result Named TextRefusal) × ComesTo text end
 some_end sound has text flaw = by (nat_lt file_limit (length text)) refl
   where
-    ended : length text ≤ file_limit → (m : Module) → IsModuleOf m text → (result : Result Named ElabFault) → IsOutcome false m result → (end : Result Named Refusal) × ComesTo text end
+    ended : length text ≤ file_limit → (m : Module) → IsModuleOf m text → (result : Result Named ElabFault) → IsOutcome false m result → (end : Result Named TextRefusal) × ComesTo text end
     ended small m spells (Ok named) is = (Ok named, (small, record { syntax_of = m; spells = spells; outcome = is }))
     ended small m spells (Err fault) is = (Err (refusals.Elab fault), (small, record { syntax_of = m; spells = spells; outcome = is }))
 
-    short : length text ≤ file_limit → ((m : Module) × IsModuleOf m text) ⊎ ((fault : LexFault) × HasLexFault text fault) ⊎ ((fault : ParseFault) × HasParseFault text fault) → (end : Result Named Refusal) × ComesTo text end
+    short : length text ≤ file_limit → ((m : Module) × IsModuleOf m text) ⊎ ((fault : LexFault) × HasLexFault text fault) ⊎ ((fault : ParseFault) × HasParseFault text fault) → (end : Result Named TextRefusal) × ComesTo text end
     short small (inl m) = let out = has false m.0 (sound m.0 text m.1) in ended small m.0 m.1 out.0 out.1
     short small (inr (inl f)) = (Err (refusals.Lex f.0), (small, f.1))
     short small (inr (inr f)) = (Err (refusals.Parse f.0), (small, f.1))
 
-    by : (t : Bool) → nat_lt file_limit (length text) ≡ t → (end : Result Named Refusal) × ComesTo text end
+    by : (t : Bool) → nat_lt file_limit (length text) ≡ t → (end : Result Named TextRefusal) × ComesTo text end
     by true e = (Err refusals.TooLong, past e)
       where
         past : nat_lt file_limit (length text) ≡ true → file_limit < length text

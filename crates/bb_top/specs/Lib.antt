@@ -1,3 +1,6 @@
+pub mod Calls
 pub mod Reads
-pub mod Refusals
+pub mod Causes
+pub mod Lines
 pub mod Ends
+pub mod Steps

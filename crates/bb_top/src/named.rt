@@ -1,6 +1,6 @@
 //! The named netlist that the text of a file denotes.
 
-ghost use Rattle.std.specs.Prelude.{◌≡◌, ◌<◌, ◌≤◌, ℕ, List, length, IfOk, IsErrOf, Ok, Err};
+ghost use Rattle.std.specs.Prelude.{◌≡◌, ◌<◌, ◌≤◌, ℕ, false, List, length, IfOk, IsErrOf, Ok, Err};
 ghost use Rattle.bb_edge.specs.Causes.{Rose};
 ghost use Rattle.bb_edge.specs.Told.{Held};
 ghost use Rattle.bb_lex.specs.declared.fault.LexFault.{LexFault as LexValue};
@@ -10,12 +10,14 @@ ghost use Rattle.bb_fault.specs.declared.fault.ElabFault.{ElabFault as ElabValue
 ghost use Rattle.bb_base.specs.Variables.{bit_count, limit_of};
 ghost use Rattle.bb_parse.specs.Texts.{HasLexFault, HasParseFault};
 ghost use Rattle.bb_elab.specs.Denotes.{ElaboratesTo};
+ghost use Rattle.bb_ready.specs.Ready.{IsReady};
 
 use bb_edge::Store;
 use bb_elab::elaborate;
 use bb_fault::ElabFault;
 use bb_net::{Named, Order};
 use bb_read::{ReadFault, module_in, read_whole};
+use bb_ready::read_netlists_are_ready;
 use std::alloc::Global;
 
 /// The named netlist that a text denotes, and the order of its gates, or the text's first fault.
@@ -23,12 +25,14 @@ fn named_in(alloc: Global, text: &[u8], own: bool) -> Result<(Named, Order), Rea
     ensures named { IfOk result (λ found. ElaboratesTo own text.now (Ok found.0)) }
     ensures order { IfOk result (λ found. IsOrder found.0.netlist.gates found.1) }
     ensures bits { IfOk result (λ found. bit_count found.0.variables ≤ limit_of own) }
+    ensures ready { IfOk result (λ found. own ≡ false → IsReady found.0) }
     ensures lex { (fault : LexValue) → IsErrOf result (ReadFault.Lex fault) → HasLexFault text.now fault }
     ensures parse { (fault : ParseValue) → IsErrOf result (ReadFault.Parse fault) → HasParseFault text.now fault }
     ensures elab { (fault : ElabValue) → IsErrOf result (ReadFault.Elab fault) → ElaboratesTo own text.now (Err fault) }
     ensures no_read { IsErrOf result ReadFault.Read → ⊥ }
     ensures no_length { IsErrOf result ReadFault.TooLong → ⊥ }
 {
+    read_netlists_are_ready();
     let syntax = module_in(alloc, text)?;
     match elaborate(alloc, &syntax, own) {
         Ok(found) => Ok(found),
@@ -54,6 +58,8 @@ pub fn read_named<S: Store>(
     ensures order { IfOk result (λ found. IsOrder found.0.netlist.gates found.1) }
     // The wires of made nets are among the variables.
     ensures bits { IfOk result (λ found. bit_count found.0.variables ≤ limit_of own) }
+    // A self-test can be woven into it.
+    ensures ready { IfOk result (λ found. own ≡ false → IsReady found.0) }
     ensures read { IsErrOf result ReadFault.Read → Rose (S.read_faults store.old) (S.read_faults store.new) }
     ensures too_long { IsErrOf result ReadFault.TooLong → (text : List ℕ) → S.holds store.old name.now ≡ Held text → limit < length text }
     ensures lex { (fault : LexValue) → IsErrOf result (ReadFault.Lex fault) → (text : List ℕ) → S.holds store.old name.now ≡ Held text → (length text ≤ limit) × HasLexFault text fault }

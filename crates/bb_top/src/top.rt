@@ -1,110 +1,57 @@
-ghost use Rattle.std.specs.Prelude.{◌≡◌, ◌≢◌, ◌⊎◌, ◌≤◌, map, ℕ, List, Some, None, string_bytes, IfOk, IsErrOf, length};
-ghost use Rattle.std.specs.Option.{ForSome};
-ghost use Rattle.bb_net.specs.Named.{Named};
+ghost use Rattle.std.specs.Prelude.{◌≡◌, ◌≢◌, ◌⊎◌, ◌≤◌, map, ℕ, List, None, string_bytes, length};
+ghost use Rattle.std.specs.List.{AllByRecursion};
 ghost use Rattle.bb_edge.specs.Causes.{Rose};
-ghost use Rattle.bb_edge.specs.Told.{Held, AppendsAll};
-ghost use Rattle.bb_read.specs.Words.{command_of, output_name, Command as CommandValue};
-ghost use Rattle.bb_top.specs.Reads.{IsReadable, IsMade};
+ghost use Rattle.bb_edge.specs.Told.{Held, AppendsAll, AppendsFront};
+ghost use Rattle.bb_netlist.specs.Order.{IsOrder};
+ghost use Rattle.bb_net.specs.Named.{Named};
+ghost use Rattle.bb_words.specs.Commands.{files_of};
+ghost use Rattle.bb_choose.specs.Arranged.{AreInRange};
+ghost use Rattle.bb_make.specs.Artifacts.{ArtifactsValue};
 ghost use Rattle.bb_top.specs.declared.refusal.Refusal.{Refusal as RefusalValue};
-ghost use Rattle.bb_top.specs.Refusals.{fault_in, refusal_line};
-ghost use Rattle.bb_top.specs.Ends.{IsRefused, IsDone, IsRefusal, IsUnwritten, IsUnsaid, file_limit, usage_line, done_line};
+ghost use Rattle.bb_top.specs.Calls.{CallValue, Asks, AskNothing, WritesItsInput};
+ghost use Rattle.bb_choose.specs.Enough.{IsEnough};
+ghost use Rattle.bb_top.specs.Reads.{file_limit, IsReadable};
+ghost use Rattle.bb_top.specs.Causes.{IsRefused};
+ghost use Rattle.bb_top.specs.Lines.{refusal_line};
+ghost use Rattle.bb_top.specs.Ends.{IsDone, IsRefusal, IsUnwritten, Answer, answer_line, IsAsSaid, IsUnsaid, usage_line, same_name_line, done_line};
 
-use crate::laws::one_outcome_of;
-use crate::make::make;
-use crate::named::read_named;
-use crate::refusal::{Refusal, line_of};
+use crate::call::{Call, call_in};
+use crate::laws::{made_or_refused, room_is_enough};
+use crate::line::line_of;
+use crate::prepare::{Stop, prepare};
 use bb_edge::{Failed, Sink, Store};
-use bb_grammar::one_flaw;
-use bb_read::{Command, ReadFault, command_in, write_whole};
+use bb_read::write_files;
+use bb_words::{WordsFault, one_command};
 use std::alloc::Global;
 
-/// The most bytes of the input.
-const FILE_LIMIT: u64 = 67_108_864;
-
-/// Why nothing is written.
-enum Stop {
-    Read,
-    Refused(Refusal),
-    NoMemory,
-}
-
-/// What stops a call by a fault of reading.
-fn stop_of(fault: ReadFault) -> Stop
-    ensures read { result ≡ Stop.Read → fault ≡ ReadFault.Read }
-    ensures refused { (refusal : RefusalValue) → result ≡ Stop.Refused refusal → fault ≡ fault_in refusal }
-{
-    match fault {
-        ReadFault::Read => Stop::Read,
-        ReadFault::TooLong => Stop::Refused(Refusal::TooLong),
-        ReadFault::Lex(fault) => Stop::Refused(Refusal::Lex(fault)),
-        ReadFault::Parse(fault) => Stop::Refused(Refusal::Parse(fault)),
-        ReadFault::Elab(fault) => Stop::Refused(Refusal::Elab(fault)),
-        ReadFault::NoMemory => Stop::NoMemory,
-    }
-}
-
-/// Reads a file and makes what is to be written.
-fn prepare<S: Store>(alloc: Global, store: &mut S, input: &str) -> Result<Vec<u8>, Stop>
-    requires { S.may_read input.now }
-    ensures made { IfOk result (λ made. (text : List ℕ) → S.holds store.old input.now ≡ Held text → (length text ≤ file_limit) × IsMade text made.items) }
-    ensures read { IsErrOf result Stop.Read → Rose (S.read_faults store.old) (S.read_faults store.new) }
-    ensures refused { (refusal : RefusalValue) → IsErrOf result (Stop.Refused refusal) → (text : List ℕ) → S.holds store.old input.now ≡ Held text → IsRefused refusal text }
-    ensures later { S.read_faults store.old ≤ S.read_faults store.new }
-    ensures contents { S.holds store.new ≡ S.holds store.old }
-    ensures writing { S.writing store.new ≡ S.writing store.old }
-    ensures write_faults { S.write_faults store.new ≡ S.write_faults store.old }
-{
-    let named = match read_named(alloc, store, input, false, FILE_LIMIT) {
-        Ok((named, _order)) => named,
-        Err(fault) => return Err(stop_of(fault)),
-    };
-    match make(alloc, &named) {
-        Ok(made) => Ok(made),
-        Err(_) => Err(Stop::NoMemory),
-    }
-}
-
-/// Reads the words, does what they say, puts a line, and answers the status: 0 where it is done, 1 where the input is refused,
-/// 2 where the words mean no command, 3 where reading failed, 4 where writing failed, 5 where memory was wanting.
-pub fn bilbo<S: Store, K: Sink>(alloc: Global, words: &[String], store: &mut S, out: &mut K) -> u8
-    // The names that the command reads and writes may be read and written. Words that mean no command ask nothing.
-    requires names { ForSome (command_of (map (λ w. string_bytes w) words.now)) (λ c. S.may_read c.input × S.may_write (output_name c)) }
+/// Does what a call asks for, and answers the status.
+fn compile<S: Store, K: Sink>(alloc: Global, call: &Call, store: &mut S, out: &mut K) -> u8
+    requires may_read { S.may_read call.now.input }
+    requires may_write { AllByRecursion S.may_write (files_of call.now.prefix) }
+    requires settings { AreInRange call.now.settings }
     requires free { S.writing store.old ≡ None }
-
     ensures free { S.writing store.new ≡ None }
     ensures status { result ≤ 5 }
-
-    ensures done { result ≡ 0 → IsDone (map (λ w. string_bytes w) words.now) (S.holds store.old) (S.holds store.new) × AppendsAll (K.told out.old) (K.told out.new) done_line }
-    ensures refused { result ≡ 1 → (refusal : RefusalValue) × IsRefusal refusal (map (λ w. string_bytes w) words.now) (S.holds store.old)
+    ensures no_usage { result ≢ 2 }
+    ensures done { result ≡ 0 → (made : ArtifactsValue) × IsDone call.now (S.holds store.old) (S.holds store.new) made
+        × AppendsAll (K.told out.old) (K.told out.new) (done_line made.summary) }
+    ensures refused { result ≡ 1 → (refusal : RefusalValue) × IsRefusal call.now refusal (S.holds store.old)
         × AppendsAll (K.told out.old) (K.told out.new) (refusal_line refusal) × (S.holds store.new ≡ S.holds store.old) }
-    ensures usage { result ≡ 2 → (command_of (map (λ w. string_bytes w) words.now) ≡ None)
-        × AppendsAll (K.told out.old) (K.told out.new) usage_line × (S.holds store.new ≡ S.holds store.old) }
     ensures read { result ≡ 3 → Rose (S.read_faults store.old) (S.read_faults store.new)
         × (K.told out.new ≡ K.told out.old) × (S.holds store.new ≡ S.holds store.old) }
     ensures write { result ≡ 4
-        → (Rose (S.write_faults store.old) (S.write_faults store.new) × (K.told out.new ≡ K.told out.old) × IsUnwritten (map (λ w. string_bytes w) words.now) (S.holds store.old) (S.holds store.new))
-        ⊎ (Rose (K.faults out.old) (K.faults out.new) × IsUnsaid (map (λ w. string_bytes w) words.now) (S.holds store.old) (S.holds store.new) (K.told out.old) (K.told out.new)) }
+        → (Rose (S.write_faults store.old) (S.write_faults store.new) × (K.told out.new ≡ K.told out.old) × IsUnwritten call.now (S.holds store.old) (S.holds store.new))
+        ⊎ (Rose (K.faults out.old) (K.faults out.new)
+        × ((answer : Answer) × IsAsSaid answer call.now (S.holds store.old) (S.holds store.new) × AppendsFront (K.told out.old) (K.told out.new) (answer_line answer))) }
     ensures memory { result ≡ 5 → (K.told out.new ≡ K.told out.old) × (S.holds store.new ≡ S.holds store.old) }
-
-    // Words that mean no command are answered so, unless the sink fails.
-    ensures always_usage { command_of (map (λ w. string_bytes w) words.now) ≡ None → (result ≡ 2) ⊎ (result ≡ 4) }
-    // A text that is read is neither refused nor called a fault of the words.
-    ensures complete { (c : CommandValue) (text : List ℕ) (a : Named) → command_of (map (λ w. string_bytes w) words.now) ≡ Some c → S.holds store.old c.input ≡ Held text
-        → length text ≤ file_limit → IsReadable a text → (result ≢ 1) × (result ≢ 2) }
-    // A text that has a refusal isn't called done.
-    ensures always_refused { (c : CommandValue) (text : List ℕ) (refusal : RefusalValue) → command_of (map (λ w. string_bytes w) words.now) ≡ Some c → S.holds store.old c.input ≡ Held text
-        → IsRefused refusal text → (result ≢ 0) × (result ≢ 2) }
+    ensures complete { (text : List ℕ) (a : Named) (order : List ℕ) → S.holds store.old call.now.input ≡ Held text → length text ≤ file_limit → IsReadable a text
+        → IsOrder a.netlist.gates order → IsEnough a.netlist order call.now.settings → result ≢ 1 }
+    ensures always_refused { (text : List ℕ) (refusal : RefusalValue) → S.holds store.old call.now.input ≡ Held text → IsRefused call.now.settings refusal text → result ≢ 0 }
 {
-    one_flaw();
-    one_outcome_of();
-    let Some(Command { input, prefix }) = command_in(words) else {
-        return match out.put(b"usage: bilbo compile IN PREFIX\n") {
-            Ok(()) => 2,
-            Err(Failed) => 4,
-        };
-    };
-    let made = match prepare(alloc, store, input) {
-        Ok(made) => made,
+    made_or_refused();
+    room_is_enough();
+    let prepared = match prepare(alloc, call, store) {
+        Ok(prepared) => prepared,
         Err(Stop::Read) => return 3,
         Err(Stop::NoMemory) => return 5,
         Err(Stop::Refused(refusal)) => {
@@ -117,15 +64,69 @@ pub fn bilbo<S: Store, K: Sink>(alloc: Global, words: &[String], store: &mut S, 
             }
         }
     };
-    let Ok(name) = format!(in alloc; "{prefix}.v") else {
-        return 5;
-    };
-    match write_whole(store, name.as_str(), &made) {
+    match write_files(store, &prepared.files) {
         Ok(()) => {}
         Err(Failed) => return 4,
     }
-    match out.put(b"done\n") {
+    match out.put(&prepared.line) {
         Ok(()) => 0,
         Err(Failed) => 4,
+    }
+}
+
+/// Reads the words, does what they ask for, puts a line, and answers the status: 0 where it is done, 1 where the input is refused,
+/// 2 where the words ask for no call or for one that would write its own input, 3 where reading failed, 4 where writing failed, 5 where
+/// memory was wanting.
+pub fn bilbo<S: Store, K: Sink>(alloc: Global, words: &[String], store: &mut S, out: &mut K) -> u8
+    // The names that the call reads and writes may be read and written. Words that ask for no call ask nothing of names.
+    requires may_read { (call : CallValue) → Asks (map (λ w. string_bytes w) words.now) call → S.may_read call.input }
+    requires may_write { (call : CallValue) → Asks (map (λ w. string_bytes w) words.now) call → AllByRecursion S.may_write (files_of call.prefix) }
+    requires free { S.writing store.old ≡ None }
+
+    ensures free { S.writing store.new ≡ None }
+    ensures status { result ≤ 5 }
+
+    // The input's text denotes a netlist, and the files hold its self-test.
+    ensures done { result ≡ 0 → (call : CallValue) × (made : ArtifactsValue) × Asks (map (λ w. string_bytes w) words.now) call
+        × IsDone call (S.holds store.old) (S.holds store.new) made × AppendsAll (K.told out.old) (K.told out.new) (done_line made.summary) }
+    ensures refused { result ≡ 1 → (call : CallValue) × (refusal : RefusalValue) × Asks (map (λ w. string_bytes w) words.now) call
+        × IsRefusal call refusal (S.holds store.old) × AppendsAll (K.told out.old) (K.told out.new) (refusal_line refusal) × (S.holds store.new ≡ S.holds store.old) }
+    ensures words { result ≡ 2 → (S.holds store.new ≡ S.holds store.old)
+        × ((AskNothing (map (λ w. string_bytes w) words.now) × AppendsAll (K.told out.old) (K.told out.new) usage_line)
+        ⊎ ((call : CallValue) × Asks (map (λ w. string_bytes w) words.now) call × WritesItsInput call × AppendsAll (K.told out.old) (K.told out.new) same_name_line)) }
+    ensures read { result ≡ 3 → Rose (S.read_faults store.old) (S.read_faults store.new)
+        × (K.told out.new ≡ K.told out.old) × (S.holds store.new ≡ S.holds store.old) }
+    ensures write { result ≡ 4
+        → (Rose (S.write_faults store.old) (S.write_faults store.new) × (K.told out.new ≡ K.told out.old)
+        × ((call : CallValue) × Asks (map (λ w. string_bytes w) words.now) call × IsUnwritten call (S.holds store.old) (S.holds store.new)))
+        ⊎ (Rose (K.faults out.old) (K.faults out.new) × IsUnsaid (map (λ w. string_bytes w) words.now) (S.holds store.old) (S.holds store.new) (K.told out.old) (K.told out.new)) }
+    ensures memory { result ≡ 5 → (K.told out.new ≡ K.told out.old) × (S.holds store.new ≡ S.holds store.old) }
+
+    // Words that ask for no call are answered so, unless the sink fails or memory is wanting.
+    ensures always_usage { AskNothing (map (λ w. string_bytes w) words.now) → (result ≡ 2) ⊎ (result ≡ 4) ⊎ (result ≡ 5) }
+    // And so are those whose call would write its own input.
+    ensures always_same_name { (call : CallValue) → Asks (map (λ w. string_bytes w) words.now) call → WritesItsInput call → (result ≡ 2) ⊎ (result ≡ 4) ⊎ (result ≡ 5) }
+    // A call whose text denotes a netlist with room for a plan is done, unless the store or the sink fails or memory is wanting.
+    ensures complete { (call : CallValue) (text : List ℕ) (a : Named) (order : List ℕ) → Asks (map (λ w. string_bytes w) words.now) call → (WritesItsInput call → ⊥)
+        → S.holds store.old call.input ≡ Held text → length text ≤ file_limit → IsReadable a text → IsOrder a.netlist.gates order → IsEnough a.netlist order call.settings
+        → (result ≢ 1) × (result ≢ 2) }
+    // A text that has a refusal is refused, unless the store or the sink fails or memory is wanting.
+    ensures always_refused { (call : CallValue) (text : List ℕ) (refusal : RefusalValue) → Asks (map (λ w. string_bytes w) words.now) call → (WritesItsInput call → ⊥)
+        → S.holds store.old call.input ≡ Held text → IsRefused call.settings refusal text → (result ≢ 0) × (result ≢ 2) }
+{
+    one_command();
+    match call_in(alloc, words) {
+        Ok(call) => compile(alloc, &call, store, out),
+        Err(WordsFault::Usage) => {
+            match out.put(b"usage: bilbo compile IN PREFIX [options]\n") {
+                Ok(()) => 2,
+                Err(Failed) => 4,
+            }
+        }
+        Err(WordsFault::SameName) => match out.put(b"refused words: same name\n") {
+            Ok(()) => 2,
+            Err(Failed) => 4,
+        },
+        Err(WordsFault::NoMemory) => 5,
     }
 }
