@@ -1,0 +1,10 @@
+pub mod OnlyMemory
+pub mod DrawLemmas
+pub mod NetLemmas
+pub mod GateLemmas
+pub mod VectorLemmas
+pub mod StageLemmas
+pub mod NameLemmas
+pub mod WholeLemmas
+pub mod RankLemmas
+pub mod PoolLemmas
