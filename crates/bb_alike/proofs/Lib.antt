@@ -1,0 +1,4 @@
+pub mod ListLemmas
+pub mod NetLemmas
+pub mod FeedLemmas
+pub mod AlikeLemmas

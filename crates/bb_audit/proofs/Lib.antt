@@ -1,0 +1,9 @@
+mod ApartLemmas
+mod LineLemmas
+mod DualLemmas
+mod ListedLemmas
+mod FrontLemmas
+mod MirrorLemmas
+mod JudgeLemmas
+mod NumberingLemmas
+mod OneAudit
