@@ -4,13 +4,9 @@
 #![tactic(auto)]
 
 #[cfg(test)]
-mod benchmark;
-#[cfg(test)]
 mod calls;
 #[cfg(test)]
 mod canonical;
-#[cfg(test)]
-mod compiled;
 #[cfg(test)]
 mod half;
 #[cfg(test)]
