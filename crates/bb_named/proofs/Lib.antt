@@ -1,0 +1,2 @@
+pub mod MadeBits
+pub mod TextEnds
