@@ -40,9 +40,6 @@ differs f xs ys i x y at there apart same =
     let one : f x ≡ y = cc both in
     apart one
 
-pub differs_long : {X Y : Type 0} (f : X → Y) (xs : List X) (ys : List Y) → (length xs ≡ length ys → ⊥) → map f xs ≡ ys → ⊥
-differs_long f xs ys apart same = apart (sym (length_map f xs) ∙ ap length same)
-
 -- the number at a place of a list of images
 pub number_at : {X : Type 0} (f : X → ℕ) (xs : List X) (i : ℕ) (x : X) → slice_get xs i ≡ Some x → slice_index (map f xs) i ≡ f x
 number_at f xs i x at = get_or_from_slice_get (map f xs) i (f x) 0 (image_at f xs i x at)

@@ -43,8 +43,8 @@ pub record AgreesWith (w b : Named) : Type 0 where
 
 -- Where b first differs from w: 0 for module, ports and clock; one more than the first net of w that b drives otherwise, or not at all;
 -- one more than all nets of w where b has others.
-abbrev pub DiffersAt : Named → Named → ℕ → Type 0
-DiffersAt w b place =
+abbrev pub NetlistsDifferAt : Named → Named → ℕ → Type 0
+NetlistsDifferAt w b place =
     ((place ≡ 0) × (HasFrontOf w b → ⊥))
     ⊎ ((HasFrontOf w b × ((net : ℕ) × (place ≡ net + 1) × IsFirstWrong w.names (λ m name. IsFedAlike w b (site_of w m)) net))
     ⊎ ((place ≡ length w.names + 1) × HasFrontOf w b × NetsAgree w b × ((net : ℕ) × IsOneMore w b net)))

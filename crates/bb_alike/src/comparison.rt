@@ -2,7 +2,7 @@
 
 ghost use Rattle.std.specs.Prelude.{◌≡◌, ℕ, None, Some, IfOk, slice_get};
 ghost use Rattle.std.specs.Bool.{OnTrue, OnFalse};
-ghost use Rattle.bb_alike.specs.Alike.{AgreesWith, DiffersAt};
+ghost use Rattle.bb_alike.specs.Alike.{AgreesWith, NetlistsDifferAt};
 
 use crate::drivers::first_unlike;
 use crate::front::has_front;
@@ -28,7 +28,7 @@ fn has_more(nets: &[Option<NetId>]) -> bool
 /// one, counted from 1, or one more than all of them where there are others. Each variable and each net is looked up once in both.
 pub fn difference(alloc: Global, woven: &Named, written: &Named) -> Result<Option<u32>, AllocError>
     ensures none { IfOk result (λ found. found ≡ None → AgreesWith woven.now written.now) }
-    ensures some { IfOk result (λ found. (place : ℕ) → found ≡ Some place → DiffersAt woven.now written.now place) }
+    ensures some { IfOk result (λ found. (place : ℕ) → found ≡ Some place → NetlistsDifferAt woven.now written.now place) }
 {
     if !has_front(woven, written) {
         return Ok(Some(0));

@@ -1,29 +1,12 @@
 -- The first place at which lists differ.
-use Rattle.std.proofs.Common.{arith, ◌≡◌, ℕ, ◌<◌, ◌≤◌, nat_lt, Bool, true, false, List, length, map, None, Some, option_map, slice_get, refl, sym, ap, ◌∙◌}
-use Rattle.std.proofs.lemmas.Option.{slice_get-map, slice_get_past}
+use Rattle.std.proofs.Common.{arith, ◌≡◌, ℕ, ◌<◌, ◌≤◌, nat_lt, Bool, true, false, List, length, map, None, Some, slice_get, refl, sym, ◌∙◌}
+use Rattle.std.proofs.lemmas.Option.{slice_get_past}
 use Rattle.std.proofs.lemmas.Bool.Decides.{nat_tests}
 use Rattle.bb_base.proofs.Lists.{get_some, length_map}
 use Rattle.bb_alike.proofs.ListLemmas.{AgreeTo, image_at, agree_all}
 use Rattle.bb_audit.specs.Certified.{IsFirstApart}
 
--- the first place at which two lists differ: two items differ there, or one list has ended
-pub apart_here : {X Y : Type 0} (f : X → Y) (xs : List X) (ys : List Y) (n : ℕ) (x : X) (y : Y) → AgreeTo f xs ys n → slice_get xs n ≡ Some x → slice_get ys n ≡ Some y → (f x ≡ y → ⊥) → IsFirstApart (map f xs) ys n
-apart_here f xs ys n x y h at there apart = record {
-  before = h;
-  apart = λ same.
-      let both : Some (f x) ≡ Some y = sym (image_at f xs n x at) ∙ same ∙ there in
-      let one : f x ≡ y = cc both in
-      apart one;
-}
-
-pub apart_short : {X Y : Type 0} (f : X → Y) (xs : List X) (ys : List Y) (n : ℕ) (y : Y) → AgreeTo f xs ys n → slice_get xs n ≡ None → slice_get ys n ≡ Some y → IsFirstApart (map f xs) ys n
-apart_short f xs ys n y h none there = record {
-  before = h;
-  apart = λ same.
-      let both : None ≡ Some y = sym (slice_get-map f xs n ∙ ap (option_map f) none) ∙ same ∙ there in
-      cc both;
-}
-
+-- the first place at which two lists differ: the second has ended
 pub apart_long : {X Y : Type 0} (f : X → Y) (xs : List X) (ys : List Y) (n : ℕ) → AgreeTo f xs ys n → n ≡ length ys → length ys < length xs → IsFirstApart (map f xs) ys n
 apart_long f xs ys n h all more = record {
   before = h;

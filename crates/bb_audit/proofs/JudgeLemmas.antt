@@ -13,7 +13,7 @@ use Rattle.bb_selftest.proofs.Promise.{self_test}
 use Rattle.bb_audit.specs.Audited.{Audited}
 use Rattle.bb_audit.specs.Certified.{ListsSegments}
 use Rattle.bb_audit.specs.Signed.{values_of}
-use Rattle.bb_audit.specs.Passing.{AuditRule, Planned, Segments, Duals, Drivers, Signatures, audit_number, IsPlanOf, Meets, AuditPasses}
+use Rattle.bb_audit.specs.Passing.{AuditRule, Planned, Segments, Duals, Drivers, Signatures, audit_number, IsPlanWithSegments, FilesMeet, AuditPasses}
 use Rattle.bb_audit.specs.Faults.{FailsFirstAt, IsAuditFault}
 
 pub last_rule : (rule : Rule) → rule_number rule ≤ 14
@@ -46,22 +46,22 @@ plan_fault f number place h = record {
     low : number ≤ 14
     low = let is = h.fault.number_is in omega (arith, is, last_rule h.fault.rule)
 
-    before : (earlier : AuditRule) → audit_number earlier < number → Meets f earlier
+    before : (earlier : AuditRule) → audit_number earlier < number → FilesMeet f earlier
     before (Planned rule) less = h.fault.before rule less
     before Segments less = absurd (omega (arith, less, low))
     before Duals less = absurd (omega (arith, less, low))
     before Drivers less = absurd (omega (arith, less, low))
     before Signatures less = absurd (omega (arith, less, low))
 
-module _ (f : Audited) (valid : ValidValue) (of : IsPlanOf f valid) where
+module _ (f : Audited) (valid : ValidValue) (of : IsPlanWithSegments f valid) where
   planned : (rule : Rule) → Holds f.original.netlist f.plan rule
   planned rule = subst (λ p. Holds f.original.netlist p rule) of.plan (of.valid_for.plan_valid.meets rule)
 
   -- a rule fails that stands behind those that are met
-  fault_at : (rule : AuditRule) (exact number place : ℕ) → number ≡ audit_number rule → place ≡ min (2 ^ 32 - 1) exact → ((earlier : AuditRule) → audit_number earlier < audit_number rule → Meets f earlier) → FailsFirstAt f rule exact → IsAuditFault f number place
+  fault_at : (rule : AuditRule) (exact number place : ℕ) → number ≡ audit_number rule → place ≡ min (2 ^ 32 - 1) exact → ((earlier : AuditRule) → audit_number earlier < audit_number rule → FilesMeet f earlier) → FailsFirstAt f rule exact → IsAuditFault f number place
   fault_at rule exact number place is capped before fails = record { rule = rule; number_is = is; before = λ earlier less. before earlier (omega (arith, less, is)); exact = exact; fails = fails; capped = capped }
 
-  before_segments : (earlier : AuditRule) → audit_number earlier < 15 → Meets f earlier
+  before_segments : (earlier : AuditRule) → audit_number earlier < 15 → FilesMeet f earlier
   before_segments (Planned rule) less = planned rule
   before_segments Segments less = absurd (omega (arith, less))
   before_segments Duals less = absurd (omega (arith, less))
@@ -72,7 +72,7 @@ module _ (f : Audited) (valid : ValidValue) (of : IsPlanOf f valid) where
   segments_fault exact number place is capped fails = fault_at Segments exact number place is capped before_segments fails
 
   module _ (lists : ListsSegments valid f.certificate) where
-    before_duals : (earlier : AuditRule) → audit_number earlier < 16 → Meets f earlier
+    before_duals : (earlier : AuditRule) → audit_number earlier < 16 → FilesMeet f earlier
     before_duals (Planned rule) less = planned rule
     before_duals Segments less = (valid, of, lists)
     before_duals Duals less = absurd (omega (arith, less))
@@ -82,8 +82,8 @@ module _ (f : Audited) (valid : ValidValue) (of : IsPlanOf f valid) where
     pub duals_fault : (exact number place : ℕ) → number ≡ 16 → place ≡ min (2 ^ 32 - 1) exact → FailsFirstAt f Duals exact → IsAuditFault f number place
     duals_fault exact number place is capped fails = fault_at Duals exact number place is capped before_duals fails
 
-    module _ (duals : Meets f Duals) where
-      before_drivers : (earlier : AuditRule) → audit_number earlier < 17 → Meets f earlier
+    module _ (duals : FilesMeet f Duals) where
+      before_drivers : (earlier : AuditRule) → audit_number earlier < 17 → FilesMeet f earlier
       before_drivers (Planned rule) less = planned rule
       before_drivers Segments less = (valid, of, lists)
       before_drivers Duals less = duals
@@ -93,8 +93,8 @@ module _ (f : Audited) (valid : ValidValue) (of : IsPlanOf f valid) where
       pub drivers_fault : (exact number place : ℕ) → number ≡ 17 → place ≡ min (2 ^ 32 - 1) exact → FailsFirstAt f Drivers exact → IsAuditFault f number place
       drivers_fault exact number place is capped fails = fault_at Drivers exact number place is capped before_drivers fails
 
-      module _ (drivers : Meets f Drivers) where
-        before_signatures : (earlier : AuditRule) → audit_number earlier < 18 → Meets f earlier
+      module _ (drivers : FilesMeet f Drivers) where
+        before_signatures : (earlier : AuditRule) → audit_number earlier < 18 → FilesMeet f earlier
         before_signatures (Planned rule) less = planned rule
         before_signatures Segments less = (valid, of, lists)
         before_signatures Duals less = duals
@@ -104,14 +104,14 @@ module _ (f : Audited) (valid : ValidValue) (of : IsPlanOf f valid) where
         pub signatures_fault : (exact number place : ℕ) → number ≡ 18 → place ≡ min (2 ^ 32 - 1) exact → FailsFirstAt f Signatures exact → IsAuditFault f number place
         signatures_fault exact number place is capped fails = fault_at Signatures exact number place is capped before_signatures fails
 
-        all_met : Meets f Signatures → (rule : AuditRule) → Meets f rule
+        all_met : FilesMeet f Signatures → (rule : AuditRule) → FilesMeet f rule
         all_met signatures (Planned rule) = planned rule
         all_met signatures Segments = (valid, of, lists)
         all_met signatures Duals = duals
         all_met signatures Drivers = drivers
         all_met signatures Signatures = signatures
 
-        pub passes : Meets f Signatures → AuditPasses f
+        pub passes : FilesMeet f Signatures → AuditPasses f
         passes signatures = record { meets = all_met signatures }
 
 -- files that pass are a self-test

@@ -17,9 +17,9 @@ use Rattle.bb_forms.specs.declared.signature.Signature.{Signature}
 use Rattle.bb_forms.specs.CertificateText.{CertificateValue}
 use Rattle.bb_audit.specs.Audited.{Audited}
 use Rattle.bb_audit.specs.Certified.{IsFirstApart, ListsSegments, FirstDiffersIn, line_cells, segment_cells, IsFirstWithoutDuals, HaveDuals}
-use Rattle.bb_alike.specs.Alike.{HasFrontOf, Feeding, Outside, Through, Held, Feeds, IsFedAlike, NetsAgree, DiffersAt}
-use Rattle.bb_audit.specs.Signed.{values_of, AreSigned}
-use Rattle.bb_audit.specs.Passing.{AuditRule, Planned, Segments, Duals, Drivers, Signatures, audit_number, IsPlanOf, Meets, AuditPasses}
+use Rattle.bb_alike.specs.Alike.{HasFrontOf, Feeding, Outside, Through, Held, Feeds, IsFedAlike, NetsAgree, NetlistsDifferAt}
+use Rattle.bb_audit.specs.Signed.{values_of, AreSessionSignatures}
+use Rattle.bb_audit.specs.Passing.{AuditRule, Planned, Segments, Duals, Drivers, Signatures, audit_number, IsPlanWithSegments, FilesMeet, AuditPasses}
 use Rattle.bb_audit.specs.Faults.{FailsFirstAt, IsAuditFault}
 use Rattle.bb_alike.proofs.FeedLemmas.{some_feeding, fed_site}
 use Rattle.bb_audit.proofs.ListedLemmas.{same_sessions}
@@ -55,7 +55,7 @@ no_line : (valid : ValidValue) (c : CertificateValue) (x : ℕ) → ListsSegment
 no_line valid c x lists (inl p) = p.1 lists.period
 no_line valid c x lists (inr p) = p.1.2.apart (ap (λ ks. slice_get ks p.1.0) lists.cells)
 
-one_valid : (f : Audited) (v w : ValidValue) → IsPlanOf f v → IsPlanOf f w → v ≡ w
+one_valid : (f : Audited) (v w : ValidValue) → IsPlanWithSegments f v → IsPlanWithSegments f w → v ≡ w
 one_valid f v w hv hw = one_segments f.original.netlist v w hv.valid_for hw.valid_for (hv.plan ∙ sym hw.plan)
 
 -- rule 16
@@ -93,7 +93,7 @@ module _ (v w b : Named) (same : sited v ≡ sited w) (names : v.names ≡ w.nam
   agree_over : NetsAgree v b → NetsAgree w b
   agree_over h = λ m x at. fed_over v w b same names clocks m (h m x (ap (λ ks. slice_get ks m) names ∙ at))
 
-  one_difference : (x y : ℕ) → DiffersAt v b x → DiffersAt w b y → x ≡ y
+  one_difference : (x y : ℕ) → NetlistsDifferAt v b x → NetlistsDifferAt w b y → x ≡ y
   one_difference x y (inl p) (inl q) = p.0 ∙ sym q.0
   one_difference x y (inl p) (inr (inl q)) = absurd (p.1 (front_over w v b (sym same) (sym names) (sym clocks) q.0))
   one_difference x y (inl p) (inr (inr q)) = absurd (p.1 (front_over w v b (sym same) (sym names) (sym clocks) q.1))
@@ -113,7 +113,7 @@ module _ (w b : Named) (hw : IsNamed w) (hb : IsNamed b) (mirrors : Mirrors (sit
   alike site (Through g) = (λ c. ((mirrors.gates g).0 c.0, c.1), λ c. ((mirrors.gates g).1 c.0, c.1))
   alike site (Held f) = (λ c. ((mirrors.flops f).0 c.0, c.1), λ c. ((mirrors.flops f).1 c.0, c.1))
 
-  no_difference : (x : ℕ) → DiffersAt w b x → ⊥
+  no_difference : (x : ℕ) → NetlistsDifferAt w b x → ⊥
   no_difference x (inl p) = p.1 (record { module_name = mirrors.module_name; ports = mirrors.ports; clock = clock_bit w b hw hb mirrors.ports mirrors.clock })
   no_difference x (inr (inl p)) = p.1.2.wrong (alike (site_of w p.1.0))
   no_difference x (inr (inr p)) =
@@ -123,13 +123,13 @@ module _ (w b : Named) (hw : IsNamed w) (hb : IsNamed b) (mirrors : Mirrors (sit
       more.1.1 there.0 there.1 there.2
 
 -- rule 18
-one_list : (f : Audited) → IsNamed f.original → Meets f Segments → (xs ys : List (List Signature)) → AreSigned f.original.netlist f.plan xs → AreSigned f.original.netlist f.plan ys → xs ≡ ys
+one_list : (f : Audited) → IsNamed f.original → FilesMeet f Segments → (xs ys : List (List Signature)) → AreSessionSignatures f.original.netlist f.plan xs → AreSessionSignatures f.original.netlist f.plan ys → xs ≡ ys
 one_list f original segments xs ys hx hy =
     same_sessions xs ys (hx.registers ∙ sym hy.registers)
     (one_signatures f.original.netlist f.plan original.netlist segments.1.valid_for.plan_valid.order (values_of xs) (values_of ys) hx.values hy.values)
 
 -- each rule first fails at one place, and isn't met then
-one_place : (f : Audited) (rule : AuditRule) (x y : ℕ) → IsNamed f.original → ((earlier : AuditRule) → audit_number earlier < audit_number rule → Meets f earlier) → FailsFirstAt f rule x → FailsFirstAt f rule y → x ≡ y
+one_place : (f : Audited) (rule : AuditRule) (x y : ℕ) → IsNamed f.original → ((earlier : AuditRule) → audit_number earlier < audit_number rule → FilesMeet f earlier) → FailsFirstAt f rule x → FailsFirstAt f rule y → x ≡ y
 one_place f (Planned rule) x y original before h k = one_failure f.original.netlist f.plan rule x y h k
 one_place f Segments x y original before h k =
     one_line k.0 f.certificate x y (subst (λ v. FirstDiffersIn v f.certificate x) (one_valid f h.0 k.0 h.1 k.1) h.2) k.2
@@ -142,8 +142,8 @@ one_place f Signatures x y original before h k =
     let same = one_list f original (before Segments (omega arith)) h.0 k.0 h.1 k.1 in
     one_apart f.signatures k.0 x y (subst (λ s. IsFirstApart f.signatures s x) same h.2) k.2
 
-met_never_fails : (f : Audited) (rule : AuditRule) (x : ℕ) → IsNamed f.original → IsNamed f.written → IsFrame f.plan → ((earlier : AuditRule) → audit_number earlier < audit_number rule → Meets f earlier)
-    → Meets f rule → FailsFirstAt f rule x → ⊥
+met_never_fails : (f : Audited) (rule : AuditRule) (x : ℕ) → IsNamed f.original → IsNamed f.written → IsFrame f.plan → ((earlier : AuditRule) → audit_number earlier < audit_number rule → FilesMeet f earlier)
+    → FilesMeet f rule → FailsFirstAt f rule x → ⊥
 met_never_fails f (Planned rule) x original written frame before h k = never_both f.original.netlist f.plan rule x frame h k
 met_never_fails f Segments x original written frame before h k = no_line k.0 f.certificate x (subst (λ v. ListsSegments v f.certificate) (one_valid f h.0 k.0 h.1 k.1) h.2) k.2
 met_never_fails f Duals x original written frame before h k = k.first.wrong (h k.place k.first.item k.first.stands)

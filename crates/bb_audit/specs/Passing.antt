@@ -6,7 +6,7 @@ use Rattle.bb_written.specs.Written.{written}
 use Rattle.bb_normal.specs.Mirrors.{Mirrors}
 use Rattle.bb_audit.specs.Audited.{Audited}
 use Rattle.bb_audit.specs.Certified.{ListsSegments, AllHaveDuals}
-use Rattle.bb_audit.specs.Signed.{AreSigned}
+use Rattle.bb_audit.specs.Signed.{AreSessionSignatures}
 
 -- the rules in the order in which they are tried
 pub data AuditRule : Type 0 where
@@ -24,18 +24,18 @@ audit_number Drivers = 17
 audit_number Signatures = 18
 
 -- the plan with its segments, of which a valid plan has one list
-pub record IsPlanOf (f : Audited) (valid : ValidValue) : Type 0 where
+pub record IsPlanWithSegments (f : Audited) (valid : ValidValue) : Type 0 where
   pub valid_for : IsValidFor f.original.netlist valid
   pub plan : valid.plan ≡ f.plan
 
 -- the files meet the rule
-abbrev pub Meets : Audited → AuditRule → Type 0
-Meets f (Planned rule) = Holds f.original.netlist f.plan rule
-Meets f Segments = (valid : ValidValue) × IsPlanOf f valid × ListsSegments valid f.certificate
-Meets f Duals = AllHaveDuals f.plan f.certificate.segments
-Meets f Drivers = Mirrors (written f.original f.plan) f.written
-Meets f Signatures = AreSigned f.original.netlist f.plan f.signatures
+abbrev pub FilesMeet : Audited → AuditRule → Type 0
+FilesMeet f (Planned rule) = Holds f.original.netlist f.plan rule
+FilesMeet f Segments = (valid : ValidValue) × IsPlanWithSegments f valid × ListsSegments valid f.certificate
+FilesMeet f Duals = AllHaveDuals f.plan f.certificate.segments
+FilesMeet f Drivers = Mirrors (written f.original f.plan) f.written
+FilesMeet f Signatures = AreSessionSignatures f.original.netlist f.plan f.signatures
 
 -- they meet every rule
 pub record AuditPasses (f : Audited) : Type 0 where
-  pub meets : (rule : AuditRule) → Meets f rule
+  pub meets : (rule : AuditRule) → FilesMeet f rule

@@ -12,6 +12,6 @@ abbrev pub values_of : List (List Signature) → List (List ℕ)
 values_of sessions = map (λ session. map (λ s. s.value) session) sessions
 
 -- rule 18: the registers of each session in its order, each with its signature
-pub record AreSigned (a : Netlist ℕ) (p : PlanValue) (sessions : List (List Signature)) : Type 0 where
+pub record AreSessionSignatures (a : Netlist ℕ) (p : PlanValue) (sessions : List (List Signature)) : Type 0 where
   pub registers : registers_of sessions ≡ p.sessions
   pub values : AreSignatures a p (values_of sessions)

@@ -5,7 +5,7 @@ ghost use Rattle.bb_netlist.specs.Order.{IsOrder};
 ghost use Rattle.bb_rules.specs.Valid.{IsValidFor};
 ghost use Rattle.bb_forms.specs.declared.signature.Signature.{Signature as SignatureValue};
 ghost use Rattle.bb_audit.specs.Certified.{IsFirstApart};
-ghost use Rattle.bb_audit.specs.Signed.{registers_of, values_of, AreSigned};
+ghost use Rattle.bb_audit.specs.Signed.{registers_of, values_of, AreSessionSignatures};
 
 use bb_forms::Signature;
 use bb_netlist::{Netlist, Order};
@@ -88,9 +88,9 @@ pub(crate) fn first_unsigned(
 ) -> Result<Option<usize>, AllocError>
     requires order { IsOrder netlist.now.gates order.now }
     requires valid { IsValidFor netlist.now valid.now }
-    ensures none { IfOk result (λ found. found ≡ None → AreSigned netlist.now valid.now.plan (map (λ session. session.items) signed.now)) }
+    ensures none { IfOk result (λ found. found ≡ None → AreSessionSignatures netlist.now valid.now.plan (map (λ session. session.items) signed.now)) }
     ensures first { IfOk result (λ found. (place : ℕ) → found ≡ Some place
-        → (should : List (List SignatureValue)) × AreSigned netlist.now valid.now.plan should × IsFirstApart (map (λ session. session.items) signed.now) should place) }
+        → (should : List (List SignatureValue)) × AreSessionSignatures netlist.now valid.now.plan should × IsFirstApart (map (λ session. session.items) signed.now) should place) }
 {
     let values = signatures(alloc, netlist, order, valid)?;
     let plan = valid.plan();

@@ -12,8 +12,8 @@ use Rattle.bb_alike.proofs.ListLemmas.{none_of, not_both}
 use Rattle.bb_audit.specs.declared.fault.AuditFault.TheVariants.{Refused}
 use Rattle.bb_audit.specs.Audited.{audited}
 use Rattle.bb_audit.specs.Certified.{IsFirstApart, line_cells, segment_cells, ListsSegments, AllHaveDuals, IsFirstWithoutDuals}
-use Rattle.bb_audit.specs.Signed.{AreSigned}
-use Rattle.bb_audit.specs.Passing.{IsPlanOf}
+use Rattle.bb_audit.specs.Signed.{AreSessionSignatures}
+use Rattle.bb_audit.specs.Passing.{IsPlanWithSegments}
 use Rattle.bb_audit.proofs.MirrorLemmas.{mirrors}
 use Rattle.bb_audit.proofs.JudgeLemmas.{refused_is, segments_fault, duals_fault, drivers_fault, signatures_fault, passes}
 use Rattle.bb_audit.proofs.judge.audit_files.Goals as goal
@@ -32,7 +32,7 @@ returns-then-not-has_period-clause-refused c = λ rule place e.
     let k = c.args.certificate.now in
     let signed : List (List Signature) = map (λ (s : Vec Signature Global). s.items) c.args.signatures.now in
     let f = audited a b v.plan signed k in
-    let of : IsPlanOf f v = record { valid_for = c.requires.valid; plan = refl } in
+    let of : IsPlanWithSegments f v = record { valid_for = c.requires.valid; plan = refl } in
     let r = refused_is c.refused.result 15 2 rule place c.refused.ensures e in
     segments_fault f v of 2 rule place r.0 r.1
     (v, of, inl (refl, λ same. not_both c.has_period.result (c.has_period.ensures.1 (same ∙ ap (λ (p : PlanValue). 2 ^ p.degree) (sym c.plan-plan.ensures))) c.if-not-has_period.true))
@@ -45,7 +45,7 @@ returns-in-Some-clause-refused c = λ rule place e.
     let k = c.args.certificate.now in
     let signed : List (List Signature) = map (λ (s : Vec Signature Global). s.items) c.args.signatures.now in
     let f = audited a b v.plan signed k in
-    let of : IsPlanOf f v = record { valid_for = c.requires.valid; plan = refl } in
+    let of : IsPlanWithSegments f v = record { valid_for = c.requires.valid; plan = refl } in
     let period : k.period ≡ 2 ^ v.plan.degree = c.has_period.ensures.0 c.if-not-has_period.false ∙ ap (λ (p : PlanValue). 2 ^ p.degree) c.plan-plan.ensures in
     let same_lines : c.deref.result.now ≡ k.segments = c.deref.ensures.value ∙ ap (λ (x : CertificateValue). x.segments) c.certificate.view_is in
     let same_segments : c.segments.result.now ≡ v.segments = c.segments.ensures in
@@ -63,7 +63,7 @@ returns-in-Some-without-clause-refused c = λ rule place e.
     let k = c.args.certificate.now in
     let signed : List (List Signature) = map (λ (s : Vec Signature Global). s.items) c.args.signatures.now in
     let f = audited a b v.plan signed k in
-    let of : IsPlanOf f v = record { valid_for = c.requires.valid; plan = refl } in
+    let of : IsPlanWithSegments f v = record { valid_for = c.requires.valid; plan = refl } in
     let period : k.period ≡ 2 ^ v.plan.degree = c.has_period.ensures.0 c.if-not-has_period.false ∙ ap (λ (p : PlanValue). 2 ^ p.degree) c.plan-plan.ensures in
     let same_lines : c.deref.result.now ≡ k.segments = c.deref.ensures.value ∙ ap (λ (x : CertificateValue). x.segments) c.certificate.view_is in
     let same_segments : c.segments.result.now ≡ v.segments = c.segments.ensures in
@@ -85,7 +85,7 @@ returns-in-Some-differs-clause-refused c = λ rule place e.
     let k = c.args.certificate.now in
     let signed : List (List Signature) = map (λ (s : Vec Signature Global). s.items) c.args.signatures.now in
     let f = audited a b v.plan signed k in
-    let of : IsPlanOf f v = record { valid_for = c.requires.valid; plan = refl } in
+    let of : IsPlanWithSegments f v = record { valid_for = c.requires.valid; plan = refl } in
     let period : k.period ≡ 2 ^ v.plan.degree = c.has_period.ensures.0 c.if-not-has_period.false ∙ ap (λ (p : PlanValue). 2 ^ p.degree) c.plan-plan.ensures in
     let same_lines : c.deref.result.now ≡ k.segments = c.deref.ensures.value ∙ ap (λ (x : CertificateValue). x.segments) c.certificate.view_is in
     let same_segments : c.segments.result.now ≡ v.segments = c.segments.ensures in
@@ -109,7 +109,7 @@ returns-in-Some-unsigned-clause-refused c = λ rule place e.
     let k = c.args.certificate.now in
     let signed : List (List Signature) = map (λ (s : Vec Signature Global). s.items) c.args.signatures.now in
     let f = audited a b v.plan signed k in
-    let of : IsPlanOf f v = record { valid_for = c.requires.valid; plan = refl } in
+    let of : IsPlanWithSegments f v = record { valid_for = c.requires.valid; plan = refl } in
     let period : k.period ≡ 2 ^ v.plan.degree = c.has_period.ensures.0 c.if-not-has_period.false ∙ ap (λ (p : PlanValue). 2 ^ p.degree) c.plan-plan.ensures in
     let same_lines : c.deref.result.now ≡ k.segments = c.deref.ensures.value ∙ ap (λ (x : CertificateValue). x.segments) c.certificate.view_is in
     let same_segments : c.segments.result.now ≡ v.segments = c.segments.ensures in
@@ -125,7 +125,7 @@ returns-in-Some-unsigned-clause-refused c = λ rule place e.
     let r = refused_is c.refused-in-Some-unsigned.result 18 c.in-Some-unsigned.session rule place c.refused-in-Some-unsigned.ensures e in
     let first = c.in_ok-unsigned.ensures.first c.in-Some-unsigned.session c.in-Some-unsigned.is in
     signatures_fault f v of lists duals mirrored c.in-Some-unsigned.session rule place r.0 r.1
-    (first.0, subst (λ (n : Netlist ℕ). AreSigned n v.plan first.0) c.netlist.ensures.value first.1, first.2)
+    (first.0, subst (λ (n : Netlist ℕ). AreSessionSignatures n v.plan first.0) c.netlist.ensures.value first.1, first.2)
 
 pub returns-clause-passes : goal.returns-clause-passes
 returns-clause-passes c =
@@ -135,7 +135,7 @@ returns-clause-passes c =
     let k = c.args.certificate.now in
     let signed : List (List Signature) = map (λ (s : Vec Signature Global). s.items) c.args.signatures.now in
     let f = audited a b v.plan signed k in
-    let of : IsPlanOf f v = record { valid_for = c.requires.valid; plan = refl } in
+    let of : IsPlanWithSegments f v = record { valid_for = c.requires.valid; plan = refl } in
     let period : k.period ≡ 2 ^ v.plan.degree = c.has_period.ensures.0 c.if-not-has_period.false ∙ ap (λ (p : PlanValue). 2 ^ p.degree) c.plan-plan.ensures in
     let same_lines : c.deref.result.now ≡ k.segments = c.deref.ensures.value ∙ ap (λ (x : CertificateValue). x.segments) c.certificate.view_is in
     let same_segments : c.segments.result.now ≡ v.segments = c.segments.ensures in
@@ -148,5 +148,5 @@ returns-clause-passes c =
     let w = c.in_ok-woven.woven.named in
     let agrees = c.in_ok-differs.ensures.none (none_of c.in_ok-differs.differs c.in_default-differs.not-Some) in
     let mirrored : Mirrors (written a v.plan) b = subst (λ (s : Sited). Mirrors s b) c.in_ok-woven.ensures.written (mirrors w b c.netlist-woven.ensures.named c.netlist-written.ensures.named agrees) in
-    let all_signed : AreSigned a.netlist v.plan signed = subst (λ (n : Netlist ℕ). AreSigned n v.plan signed) c.netlist.ensures.value (c.in_ok-unsigned.ensures.none (none_of c.in_ok-unsigned.unsigned c.in_default-unsigned.not-Some)) in
+    let all_signed : AreSessionSignatures a.netlist v.plan signed = subst (λ (n : Netlist ℕ). AreSessionSignatures n v.plan signed) c.netlist.ensures.value (c.in_ok-unsigned.ensures.none (none_of c.in_ok-unsigned.unsigned c.in_default-unsigned.not-Some)) in
     passes f v of lists duals mirrored all_signed
