@@ -1,0 +1,5 @@
+mod Places
+mod FewLeaves
+mod Formed
+mod Listed
+mod Passed
