@@ -1,8 +1,4 @@
-pub mod CallLemmas
-pub mod LineLemmas
-pub mod PlanLemmas
+pub mod CommandLemmas
+pub mod FileLemmas
 pub mod EndLemmas
-pub mod MadeBits
-pub mod TextEnds
-pub mod PlanEnds
-pub mod CallEnds
+pub mod PassLemmas

@@ -1,6 +1,4 @@
-pub mod Calls
-pub mod Reads
-pub mod Causes
-pub mod Lines
 pub mod Ends
+pub mod Needs
 pub mod Steps
+pub mod Checked

@@ -1,4 +1,5 @@
-//! The program: `bilbo compile IN PREFIX` reads the file IN, and writes files whose names begin with PREFIX.
+//! The program: `bilbo compile IN PREFIX` puts a self-test into the netlist of the file IN, and writes files whose names begin with PREFIX.
+//! `bilbo check IN PREFIX` judges such files, and `bilbo sample N PREFIX` compiles a sample netlist.
 //!
 //! It hands its words, the files of the system and standard output to the call `bilbo` of bb_top, whose contract says what is
 //! read and written and which status is answered. A word that isn't UTF-8 makes the words wrong ones.

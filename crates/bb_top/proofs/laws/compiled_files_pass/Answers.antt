@@ -1,0 +1,8 @@
+use Rattle.bb_top.proofs.PassLemmas.{made_passes, made_needs}
+use Rattle.bb_top.proofs.laws.compiled_files_pass.Goals as goal
+
+pub returns-clause-texts : goal.returns-clause-texts
+returns-clause-texts c = made_passes (record { ready = c.read_netlists_are_ready.ensures.texts; pass = c.made_files_pass.ensures; enough = c.audit_is_enough.ensures })
+
+pub returns-clause-files : goal.returns-clause-files
+returns-clause-files c = made_needs (record { ready = c.read_netlists_are_ready.ensures.texts; pass = c.made_files_pass.ensures; enough = c.audit_is_enough.ensures })
