@@ -12,7 +12,7 @@ use Rattle.bb_rules.specs.Kinds.{is_source}
 use Rattle.bb_rules.specs.Plan.{RegisterValue}
 use Rattle.bb_reg.specs.Chosen.{GroupedValue}
 use Rattle.bb_choose.specs.Arranged.{source_nets, sources_of_chain, source_number, segments_of, source_count}
-use Rattle.bb_choose.specs.Coding.{AreLeafNets, AreNumbers, AreSourcesOf, IsReady}
+use Rattle.bb_choose.specs.Coding.{AreLeafNets, AreNumbers, AreSourcesOf, CanTakeColumns}
 use Rattle.bb_choose.proofs.NumberLemmas.{number_is, all_numbers_are}
 
 pub few_pass : {X : Type 0} (p : X → Bool) (xs : List X) → length (filter p xs) ≤ length xs
@@ -78,7 +78,7 @@ leaves_within nets count lines all within =
     (λ leaves h. let are = of_all (AreLeafNets nets) lines leaves all h in to_all (λ net. net < count) leaves (λ net k. of_all (λ net. net < count) nets net within (of_all (Contains nets) leaves net are.sources k)))
 
 pub sources_are :
-    (grouped : GroupedValue) (count : ℕ) (nets numbers : List ℕ) (segments : List (List ℕ)) → IsReady count grouped → nets ≡ source_nets grouped.registers → length numbers ≡ count → AreNumbers nets numbers
+    (grouped : GroupedValue) (count : ℕ) (nets numbers : List ℕ) (segments : List (List ℕ)) → CanTakeColumns count grouped → nets ≡ source_nets grouped.registers → length numbers ≡ count → AreNumbers nets numbers
     → segments ≡ map (map (slice_index numbers)) grouped.leaves → AreSourcesOf grouped nets numbers segments
 sources_are grouped count nets numbers segments ready nets_are long are is =
     let own = source_nets grouped.registers in

@@ -26,7 +26,7 @@ use Rattle.bb_chosen.proofs.AlikeLemmas.{zip_back}
 use Rattle.bb_chosen.proofs.CellRules.{apart_held, kinds_held, served_held}
 use Rattle.bb_chosen.proofs.StopLemmas.{stops_same}
 use Rattle.bb_choose.specs.Arranged.{source_nets, sources_of_chain}
-use Rattle.bb_choose.specs.Coding.{AreLeafNets, IsReady}
+use Rattle.bb_choose.specs.Coding.{AreLeafNets, CanTakeColumns}
 use Rattle.bb_choose.proofs.LinedLemmas.{IsLined, chain_lined}
 
 -- the items that pass
@@ -156,7 +156,7 @@ module _ (a : Netlist ℕ) (cuts : List ℕ) (draft : DraftValue) (most : ℕ) (
           leaf_nets c.0 at.0 leaves c.1 c.2
 
   -- they are ready
-  pub ready : length draft.leaves ≡ length draft.observers → length draft.sources + length draft.observers ≤ 4194304 → 1 ≤ most → most ≤ 16 → IsReady (length (driven a)) (grouped_of draft most)
+  pub ready : length draft.leaves ≡ length draft.observers → length draft.sources + length draft.observers ≤ 4194304 → 1 ≤ most → most ≤ 16 → CanTakeColumns (length (driven a)) (grouped_of draft most)
   ready long few some room = record {
     apart = ready_apart;
     within = ready_within;

@@ -15,7 +15,7 @@ pub record AreLeafNets (nets leaves : List ℕ) : Type 0 where
   pub sources : AllByRecursion (Contains nets) leaves
 
 -- sources differ in their nets, which are among so many, and each leaf is one
-pub record IsReady (nets : ℕ) (grouped : GroupedValue) : Type 0 where
+pub record CanTakeColumns (nets : ℕ) (grouped : GroupedValue) : Type 0 where
   pub apart : AllPairs (λ x y. x ≢ y) (source_nets grouped.registers)
   pub within : AllByRecursion (λ net. net < nets) (source_nets grouped.registers)
   pub leaves : AllByRecursion (AreLeafNets (source_nets grouped.registers)) grouped.leaves

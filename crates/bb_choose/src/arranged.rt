@@ -7,7 +7,7 @@ ghost use Rattle.bb_netlist.specs.Net.{IsNetlist, driven};
 ghost use Rattle.bb_netlist.specs.Order.{IsOrder};
 ghost use Rattle.bb_segment.specs.Cuts.{IsFirstWide};
 ghost use Rattle.bb_choose.specs.Arranged.{AreInRange, IsArranged};
-ghost use Rattle.bb_choose.specs.Coding.{IsReady};
+ghost use Rattle.bb_choose.specs.Coding.{CanTakeColumns};
 
 use bb_cone::{CutFault, cuts};
 use bb_netlist::{Netlist, Order};
@@ -27,7 +27,7 @@ pub(crate) fn arranged(
     requires few { length (driven netlist.now) ≤ 2097152 }
     requires settings { AreInRange settings.now }
     ensures arranged { IfOk result (IsArranged netlist.now order.now settings.now) }
-    ensures ready { IfOk result (IsReady (length (driven netlist.now))) }
+    ensures ready { IfOk result (CanTakeColumns (length (driven netlist.now))) }
     ensures narrow { OnOk result (AllByRecursion (λ g. distinct_count nat_eq g.ins ≤ settings.now.width) netlist.now.gates) }
     ensures wide { (gate inputs width : ℕ) → IsErrOf result (CutFault.GateTooWide gate inputs width) → IsFirstWide netlist.now.gates width gate inputs }
     ensures width { (gate inputs width : ℕ) → IsErrOf result (CutFault.GateTooWide gate inputs width) → width ≡ settings.now.width }

@@ -12,7 +12,7 @@ ghost use Rattle.bb_code.specs.Segments.{sources_of};
 ghost use Rattle.bb_code.specs.Columns.{AreAllColumns};
 ghost use Rattle.bb_choose.specs.Arranged.{AreInRange, segments_of, source_count, cell_count};
 ghost use Rattle.bb_choose.specs.Choice.{IsDegreeFor, IsPlanOf, IsChosenPlan, OfArranged, LacksDegree, LacksCycles, LacksMask, cycle_count};
-ghost use Rattle.bb_choose.specs.Coding.{AreSourcesOf, IsReady};
+ghost use Rattle.bb_choose.specs.Coding.{AreSourcesOf, CanTakeColumns};
 
 use crate::ChoiceFault;
 use crate::arranged::arranged;
@@ -101,7 +101,7 @@ fn plan_of(
     grouped: &Grouped,
     settings: &Settings,
 ) -> Result<Chosen, ChoiceFault>
-    requires ready { IsReady nets grouped.now }
+    requires ready { CanTakeColumns nets grouped.now }
     requires settings { AreInRange settings.now }
     ensures plan { IfOk result (λ chosen. IsPlanOf settings.now grouped.now chosen.plan) }
     ensures cycles { IfOk result (λ chosen. chosen.cycles ≡ cycle_count grouped.now chosen.plan.degree) }

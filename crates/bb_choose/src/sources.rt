@@ -5,7 +5,7 @@ ghost use Rattle.std.specs.List.{AllByRecursion};
 ghost use Rattle.bb_rules.specs.Kinds.{is_source};
 ghost use Rattle.bb_code.specs.Segments.{sources_of};
 ghost use Rattle.bb_choose.specs.Arranged.{source_nets};
-ghost use Rattle.bb_choose.specs.Coding.{AreNumbers, AreSourcesOf, IsReady};
+ghost use Rattle.bb_choose.specs.Coding.{AreNumbers, AreSourcesOf, CanTakeColumns};
 
 use arrayvec::ArrayVec;
 use bb_netlist::NetId;
@@ -102,7 +102,7 @@ pub(crate) struct Sources {
 
 /// The sources of registers for a netlist of so many nets.
 pub(crate) fn sources_in(alloc: Global, nets: u32, grouped: &Grouped) -> Result<Sources, AllocError>
-    requires { IsReady nets grouped.now }
+    requires { CanTakeColumns nets grouped.now }
     ensures { IfOk result (λ sources. AreSourcesOf grouped.now sources.nets.items sources.numbers.items (sources_of sources.segments.items)) }
 {
     let sources = source_nets(alloc, &grouped.registers)?;

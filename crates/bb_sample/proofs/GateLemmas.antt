@@ -8,7 +8,7 @@ use Rattle.bb_base.proofs.Lists.{all_join, all_map_back}
 use Rattle.bb_netlist.specs.Net.{Gate, Flop, reads, HasArity}
 use Rattle.bb_net.specs.Named.{Named}
 use Rattle.bb_net.specs.Building.{with_gates, with_flops}
-use Rattle.bb_sample.specs.Draws.{draw, state_after}
+use Rattle.bb_sample.specs.Draws.{draw, generator_after}
 use Rattle.bb_sample.specs.Sample.{input_count, output_count, flop_count, net_count, gate_net, pool_size, pool_net, operator_of, gate_at, buffer_at, flop_at, sample_netlist}
 use Rattle.bb_sample.proofs.DrawLemmas.{drawn_below}
 use Rattle.bb_sample.proofs.NetLemmas.{inputs_are, range_under, pool_before, gate_stands}
@@ -72,7 +72,7 @@ all_flat P f (x ∷ xs) h = all_join P (f x) (flat_map f xs) h.0 (all_flat P f x
 pub draw_before : (number j k : ℕ) → pool_net number (draw number k (pool_size number j)) < gate_net number j
 draw_before number j k =
     let some : 0 < pool_size number j = omega (arith, inputs_are) in
-    pool_before number j (draw number k (pool_size number j)) (drawn_below (state_after number (k + 1)) (pool_size number j) some)
+    pool_before number j (draw number k (pool_size number j)) (drawn_below (generator_after number (k + 1)) (pool_size number j) some)
 
 module _ (number : ℕ) (some : 1 ≤ number) where
   abbrev Stands : ℕ → Type 0
@@ -93,7 +93,7 @@ module _ (number : ℕ) (some : 1 ≤ number) where
   buffer_reads j within = (gate_stands number (number - 1 - j) (omega (arith, some)), tt)
 
   flop_takes : (i : ℕ) → i < flop_count number → TakesNet (flop_at number i)
-  flop_takes i within = gate_stands number (draw number (3 * number + i) number) (drawn_below (state_after number (3 * number + i + 1)) number some)
+  flop_takes i within = gate_stands number (draw number (3 * number + i) number) (drawn_below (generator_after number (3 * number + i + 1)) number some)
 
   all_gates_read : All Stands (flat_map (λ (g : Gate ℕ). g.ins) (sample_netlist number).gates)
   all_gates_read =

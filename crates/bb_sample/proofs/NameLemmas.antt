@@ -10,7 +10,7 @@ use Rattle.bb_base.specs.Variables.{Entry, StandsBefore, bit_at, bit_count}
 use Rattle.bb_base.proofs.Lists.{all_join}
 use Rattle.bb_net.specs.Named.{IsByBits}
 use Rattle.bb_runs.proofs.Sorting.{Ascends, ascend_pairs}
-use Rattle.bb_sample.specs.Sample.{input_count, output_count, flop_count, bits_of, variables_of, names_of, is_clocked, sample_of}
+use Rattle.bb_sample.specs.Sample.{input_count, output_count, flop_count, bits_of, variables_of, bits_of_vectors, is_clocked, sample_of}
 use Rattle.bb_sample.proofs.NetLemmas.{inputs_are}
 use Rattle.bb_sample.proofs.GateLemmas.{all_given}
 
@@ -94,13 +94,13 @@ three_ascend v w t n =
     ascend_more (bits_of v w ++ bits_of (v + 1) t) (v + 2) n (below_more (bits_of v w) (v + 1) (v + 2) t (omega arith) (all_given (λ bit. bit.variable < v + 1) (bit_at v) w (λ place within. omega arith)))
     (ascend_more (bits_of v w) (v + 1) t (all_given (λ bit. bit.variable < v + 1) (bit_at v) w (λ place within. omega arith)) (bits_ascend v 0 w))
 
-names_ascend : (b : Bool) (number : ℕ) → Ascends StandsBefore (names_of b number)
+names_ascend : (b : Bool) (number : ℕ) → Ascends StandsBefore (bits_of_vectors b number)
 names_ascend true number =
     ascend_more (bits_of 1 input_count ++ bits_of 2 (output_count number) ++ bits_of 3 (flop_count number)) 4 number (three_below 1 input_count (output_count number) (flop_count number)) (three_ascend 1 input_count (output_count number) (flop_count number))
 names_ascend false number = three_ascend 0 input_count (output_count number) number
 
 pub by_bits : (number : ℕ) → IsByBits (sample_of number)
-by_bits number = ascend_pairs StandsBefore (names_of (is_clocked number) number) (names_ascend (is_clocked number) number)
+by_bits number = ascend_pairs StandsBefore (bits_of_vectors (is_clocked number) number) (names_ascend (is_clocked number) number)
 
 -- so no two nets have one name
 before_differs : (a b : BitName) → StandsBefore a b → a ≢ b

@@ -5,7 +5,7 @@ use Rattle.std.specs.List.{range_with_len}
 use Rattle.bb_base.proofs.Lists.{all_join}
 use Rattle.bb_netlist.specs.Order.{HasOrder, HasRanks, FallsAlong}
 use Rattle.bb_runs.proofs.Ranks.{ranks_order}
-use Rattle.bb_sample.specs.Draws.{draw, state_after}
+use Rattle.bb_sample.specs.Draws.{draw, generator_after}
 use Rattle.bb_sample.specs.Sample.{input_count, output_count, flop_count, gate_net, pool_size, pool_net, gate_at, buffer_at, sample_netlist, sample_of}
 use Rattle.bb_sample.proofs.DrawLemmas.{drawn_below}
 use Rattle.bb_sample.proofs.NetLemmas.{inputs_are}
@@ -57,7 +57,7 @@ module _ (number : ℕ) where
   read_low j k =
       let some : 0 < pool_size number j = omega (arith, inputs_are) in
       let place = draw number k (pool_size number j) in
-      let within : place < pool_size number j = drawn_below (state_after number (k + 1)) (pool_size number j) some in
+      let within : place < pool_size number j = drawn_below (generator_after number (k + 1)) (pool_size number j) some in
       let low = pool_rank input_count (output_count number) (flop_count number) number j place within in
       let high = gate_rank input_count (output_count number) (flop_count number) number j in
       omega (arith, low, high)

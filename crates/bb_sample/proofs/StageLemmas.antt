@@ -12,7 +12,7 @@ use Rattle.bb_net.specs.Named.{Named, IsConsistent}
 use Rattle.bb_net.specs.Building.{started, with_variable, with_gates, with_flops, MayClock}
 use Rattle.bb_net.proofs.ConsistentLemmas.{started_fits}
 use Rattle.bb_net.proofs.VariableLemmas.{variable_fits}
-use Rattle.bb_sample.specs.Sample.{input_count, output_count, flop_count, is_clocked, net_count, bits_of, variables_of, sample_clock, names_of, gate_at, buffer_at, flop_at, sample_of}
+use Rattle.bb_sample.specs.Sample.{input_count, output_count, flop_count, is_clocked, net_count, bits_of, variables_of, sample_clock, bits_of_vectors, gate_at, buffer_at, flop_at, sample_of}
 use Rattle.bb_sample.specs.Laying.{CanAdd, with_vector, begun, with_inputs, with_ports, with_states, laid}
 use Rattle.bb_sample.proofs.NetLemmas.{inputs_are}
 use Rattle.bb_sample.proofs.VectorLemmas.{length_bits, vector_fits}
@@ -191,7 +191,7 @@ whole b number = record {
   module_name = codes "sample";
   variables = variables_of b number;
   clock = sample_clock b;
-  names = names_of b number;
+  names = bits_of_vectors b number;
   netlist = record { inputs = range_with_len 0 input_count; outputs = range_with_len input_count (output_count number); gates = []; flops = [] };
 }
 

@@ -17,7 +17,7 @@ use Rattle.bb_net.proofs.ConsistentLemmas.{names_kept}
 use Rattle.bb_net.proofs.PlaceLemmas.{bit_pushed, still_earlier}
 use Rattle.bb_net.proofs.VariableLemmas.{at_end, variable_fits}
 use Rattle.bb_sample.specs.Sample.{vector_of, vector, bits_of}
-use Rattle.bb_sample.specs.Laying.{with_bits, with_vector, CanAdd, CanMake}
+use Rattle.bb_sample.specs.Laying.{with_more_bits, with_vector, CanAdd, CanMake}
 use Rattle.bb_sample.proofs.GateLemmas.{all_given}
 
 -- a vector is as wide as it says
@@ -58,7 +58,7 @@ port_added n name Output width some port = outputs_added n name width some
 port_added n name Wire width some port = absurd (cc port)
 
 -- a vector of wires has them when its bits are made nets
-pub wires_added : (n : Named) (name : List ℕ) (width : ℕ) → with_bits (with_variable n name (vector_of Wire width) None) (bits_of (length n.variables) width) ≡ with_vector n name Wire width
+pub wires_added : (n : Named) (name : List ℕ) (width : ℕ) → with_more_bits (with_variable n name (vector_of Wire width) None) (bits_of (length n.variables) width) ≡ with_vector n name Wire width
 wires_added n name width = λ i. record n {
   variables = n.variables ++ vector name Wire width ∷ [];
   names = append-nil n.names i ++ bits_of (length n.variables) width;
@@ -88,31 +88,31 @@ can_make n new name width can e = subst (λ k. CanMake k (length n.variables) wi
     }
 
 -- a bit behind all others is a net more
-pub net_pushed : (now new : Named) (number place : ℕ) → All (IsEarlier number place) now.names → new ≡ with_net now (bit_at number place) → new ≡ with_bits now (bit_at number place ∷ [])
+pub net_pushed : (now new : Named) (number place : ℕ) → All (IsEarlier number place) now.names → new ≡ with_net now (bit_at number place) → new ≡ with_more_bits now (bit_at number place ∷ [])
 net_pushed now new number place earlier added =
     let pushed : new.names ≡ now.names ++ bit_at number place ∷ [] = bit_pushed number place now.names new.names earlier (ap (λ (k : Named). k.names) added) in
     added ∙ ap (λ (k : Named). record now { names = k.names }) (sym added) ∙ (λ i. record now { names = pushed i })
 
 -- the bits of a variable, one after another
-pub no_bits : (n : Named) → with_bits n [] ≡ n
+pub no_bits : (n : Named) → with_more_bits n [] ≡ n
 no_bits n = ap (λ names. record n { names = names }) (append-nil n.names)
 
-pub bits_more : (old now new : Named) (number place : ℕ) → now ≡ with_bits old (bits_of number place) → new ≡ with_bits now (bit_at number place ∷ []) → new ≡ with_bits old (bits_of number (place + 1))
+pub bits_more : (old now new : Named) (number place : ℕ) → now ≡ with_more_bits old (bits_of number place) → new ≡ with_more_bits now (bit_at number place ∷ []) → new ≡ with_more_bits old (bits_of number (place + 1))
 bits_more old now new number place so_far added =
     let bits : List BitName = bits_of number place in
     let next : bits_of number (place + 1) ≡ bits ++ bit_at number place ∷ [] = map-range_with_len_more (bit_at number) 0 place place (zero-add place) in
-    added ∙ ap (λ (k : Named). with_bits k (bit_at number place ∷ [])) so_far ∙ ap (λ names. record old { names = names }) (append_assoc old.names bits (bit_at number place ∷ [])) ∙ ap (with_bits old) (sym next)
+    added ∙ ap (λ (k : Named). with_more_bits k (bit_at number place ∷ [])) so_far ∙ ap (λ names. record old { names = names }) (append_assoc old.names bits (bit_at number place ∷ [])) ∙ ap (with_more_bits old) (sym next)
 
-pub earlier_more : (now new : Named) (number place : ℕ) → All (IsEarlier number place) now.names → new ≡ with_bits now (bit_at number place ∷ []) → All (IsEarlier number (place + 1)) new.names
+pub earlier_more : (now new : Named) (number place : ℕ) → All (IsEarlier number place) now.names → new ≡ with_more_bits now (bit_at number place ∷ []) → All (IsEarlier number (place + 1)) new.names
 earlier_more now new number place earlier added = still_earlier number place now.names new.names earlier (ap (λ (k : Named). k.names) added)
 
-pub bits_so_far : (old now : Named) (number place : ℕ) → now ≡ with_bits old (bits_of number place) → length now.names ≡ length old.names + place
+pub bits_so_far : (old now : Named) (number place : ℕ) → now ≡ with_more_bits old (bits_of number place) → length now.names ≡ length old.names + place
 bits_so_far old now number place e =
     let all = ap (λ (k : Named). length k.names) e in
     omega (arith, all, length-append old.names (bits_of number place), length_bits number place)
 
 -- more names of bits that stand, none of which is the clock's, keep all fitting together
-bits_fit : (n : Named) (more : List BitName) → IsConsistent n → All (IsBit n.variables) more → ForSome n.clock (λ c. All (λ bit. bit ≢ c) more) → IsConsistent (with_bits n more)
+bits_fit : (n : Named) (more : List BitName) → IsConsistent n → All (IsBit n.variables) more → ForSome n.clock (λ c. All (λ bit. bit ≢ c) more) → IsConsistent (with_more_bits n more)
 bits_fit n more h stand apart =
     let long : length (n.names ++ more) ≡ length n.names + length more = length-append n.names more in
     let wider : (net : ℕ) → net < length n.names → net < length (n.names ++ more) = λ net less. omega (arith, long, less) in

@@ -6,9 +6,9 @@ abbrev pub generator_step : ℕ → ℕ
 generator_step state = (1103515245 * state + 12345) % 2 ^ 32
 
 -- the state after so many draws
-unfoldable pub state_after : ℕ → ℕ → ℕ
-state_after number zero = number
-state_after number (suc k) = generator_step (state_after number k)
+unfoldable pub generator_after : ℕ → ℕ → ℕ
+generator_after number zero = number
+generator_after number (suc k) = generator_step (generator_after number k)
 
 -- what a state gives below a bound, from its bits above the lowest eight
 abbrev pub drawn : ℕ → ℕ → ℕ
@@ -16,4 +16,4 @@ drawn state bound = state / 256 % bound
 
 -- draw k below a bound, counted from 0
 abbrev pub draw : ℕ → ℕ → ℕ → ℕ
-draw number k bound = drawn (state_after number (k + 1)) bound
+draw number k bound = drawn (generator_after number (k + 1)) bound

@@ -12,8 +12,8 @@ use Rattle.bb_net.specs.Building.{net_limit}
 use Rattle.bb_sample.specs.Sample.{vector, bits_of, clock_entry, sample_clock, input_count, output_count, flop_count}
 
 -- these names behind the others
-abbrev pub with_bits : Named → List BitName → Named
-with_bits n bits = record n { names = n.names ++ bits }
+abbrev pub with_more_bits : Named → List BitName → Named
+with_more_bits n bits = record n { names = n.names ++ bits }
 
 -- a vector behind the others, all of whose bits are nets
 abbrev pub with_vector : Named → List ℕ → Role → ℕ → Named

@@ -106,9 +106,9 @@ abbrev pub bits_of : ℕ → ℕ → List BitName
 bits_of number width = map (bit_at number) (range_with_len 0 width)
 
 -- the bits of all vectors, with a clock before them and without
-abbrev pub names_of : Bool → ℕ → List BitName
-names_of true number = bits_of 1 input_count ++ bits_of 2 (output_count number) ++ bits_of 3 (flop_count number) ++ bits_of 4 number
-names_of false number = bits_of 0 input_count ++ bits_of 1 (output_count number) ++ bits_of 2 number
+abbrev pub bits_of_vectors : Bool → ℕ → List BitName
+bits_of_vectors true number = bits_of 1 input_count ++ bits_of 2 (output_count number) ++ bits_of 3 (flop_count number) ++ bits_of 4 number
+bits_of_vectors false number = bits_of 0 input_count ++ bits_of 1 (output_count number) ++ bits_of 2 number
 
 -- the whole sample
 abbrev pub sample_of : ℕ → Named
@@ -116,6 +116,6 @@ sample_of number = record {
   module_name = codes "sample";
   variables = variables_of (is_clocked number) number;
   clock = sample_clock (is_clocked number);
-  names = names_of (is_clocked number) number;
+  names = bits_of_vectors (is_clocked number) number;
   netlist = sample_netlist number;
 }

@@ -4,7 +4,7 @@ ghost use Rattle.std.specs.Prelude.{◌≡◌, ◌+◌, ◌*◌, ◌<◌, ◌≤
 ghost use Rattle.std.specs.List.{range_with_len};
 ghost use Rattle.bb_base.specs.Operators.{IsArity};
 ghost use Rattle.bb_net.specs.Building.{with_gate, with_gates, with_flops};
-ghost use Rattle.bb_sample.specs.Draws.{generator_step, state_after, drawn};
+ghost use Rattle.bb_sample.specs.Draws.{generator_step, generator_after, drawn};
 ghost use Rattle.bb_sample.specs.Sample.{output_count, flop_count, net_count, gate_net, pool_size, pool_net, operator_of, gate_at, buffer_at, flop_at};
 
 use crate::draws::Draws;
@@ -59,9 +59,9 @@ fn add_gate(builder: &mut Builder, draws: &mut Draws, number: u32, j: u32) -> Re
     requires within { j < number }
     requires nets { length builder.old.names ≡ net_count number }
     requires gates { length builder.old.netlist.gates < 2 ^ 32 - 1 }
-    requires state { draws.old ≡ state_after number (3 * j) }
+    requires state { draws.old ≡ generator_after number (3 * j) }
     ensures added { OnOk result (builder.new ≡ with_gates builder.old (gate_at number j ∷ [])) }
-    ensures state { OnOk result (draws.new ≡ state_after number (3 * (j + 1))) }
+    ensures state { OnOk result (draws.new ≡ generator_after number (3 * (j + 1))) }
 {
     let op = draw_operator(draws);
     let first = draw_input(draws, number, j);
@@ -81,9 +81,9 @@ pub(crate) fn add_gates(
     requires few { number ≤ 65536 }
     requires nets { length builder.old.names ≡ net_count number }
     requires gates { length builder.old.netlist.gates ≡ 0 }
-    requires state { draws.old ≡ state_after number 0 }
+    requires state { draws.old ≡ generator_after number 0 }
     ensures added { OnOk result (builder.new ≡ with_gates builder.old (map (gate_at number) (range_with_len 0 number))) }
-    ensures state { OnOk result (draws.new ≡ state_after number (3 * number)) }
+    ensures state { OnOk result (draws.new ≡ generator_after number (3 * number)) }
 {
     'gates: for j in 0..number {
         add_gate(builder, draws, number, j)?;
@@ -131,7 +131,7 @@ pub(crate) fn add_flops(
     requires few { number ≤ 65536 }
     requires nets { length builder.old.names ≡ net_count number }
     requires flops { length builder.old.netlist.flops ≡ 0 }
-    requires state { draws.old ≡ state_after number (3 * number) }
+    requires state { draws.old ≡ generator_after number (3 * number) }
     ensures { OnOk result (builder.new ≡ with_flops builder.old (map (flop_at number) (range_with_len 0 (flop_count number)))) }
 {
     'flops: for i in 0..flop_count(number) {

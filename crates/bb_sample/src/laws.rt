@@ -6,7 +6,7 @@ ghost use Rattle.bb_base.specs.OwnNames.{is_reserved};
 ghost use Rattle.bb_base.specs.Variables.{bit_count};
 ghost use Rattle.bb_netlist.specs.Order.{HasOrder};
 ghost use Rattle.bb_net.specs.Named.{IsNamed, IsByBits};
-ghost use Rattle.bb_sample.specs.Draws.{state_after, draw};
+ghost use Rattle.bb_sample.specs.Draws.{generator_after, draw};
 ghost use Rattle.bb_sample.specs.Sample.{input_count, flop_count, state_net, gate_net, pool_size, pool_net, sample_of};
 
 /// Each sample is a named netlist with an order. Its names are no names of this project's own, and its bits are few enough for any text.
@@ -26,9 +26,9 @@ pub fn pools_hold_what_came_before()
 
 /// The states and draws of the first sample's gate.
 pub fn draws_are_known()
-    ensures first { state_after 1 1 ≡ 1103527590 }
-    ensures second { state_after 1 2 ≡ 2524885223 }
-    ensures third { state_after 1 3 ≡ 662824084 }
+    ensures first { generator_after 1 1 ≡ 1103527590 }
+    ensures second { generator_after 1 2 ≡ 2524885223 }
+    ensures third { generator_after 1 3 ≡ 662824084 }
     ensures operator { draw 1 0 6 ≡ 2 }
     ensures first_input { draw 1 1 16 ≡ 0 }
     ensures second_input { draw 1 2 16 ≡ 4 }

@@ -5,7 +5,7 @@ ghost use Rattle.std.specs.Option.{ForSome};
 ghost use Rattle.bb_base.specs.Variables.{IsBit, is_port, bit_at};
 ghost use Rattle.bb_net.specs.Building.{started, with_variable, net_limit, IsEarlier};
 ghost use Rattle.bb_sample.specs.Sample.{vector_of, bits_of, is_clocked};
-ghost use Rattle.bb_sample.specs.Laying.{with_bits, with_vector, CanAdd, CanMake, begun, with_ports, with_states, laid};
+ghost use Rattle.bb_sample.specs.Laying.{with_more_bits, with_vector, CanAdd, CanMake, begun, with_ports, with_states, laid};
 
 use crate::nets::{flop_count, input_count, is_clocked, output_count};
 use bb_base::{Name, Role};
@@ -49,7 +49,7 @@ fn add_bit(builder: &mut Builder, number: u32, place: u32) -> Result<(), AllocEr
     requires no_clock { ForSome builder.old.clock (λ c. c.variable < number) }
     requires earlier { All (IsEarlier number place) builder.old.names }
     requires room { length builder.old.names < net_limit }
-    ensures { OnOk result (builder.new ≡ with_bits builder.old (bit_at number place ∷ [])) }
+    ensures { OnOk result (builder.new ≡ with_more_bits builder.old (bit_at number place ∷ [])) }
 {
     match builder.net(number, place) {
         Ok(_) => Ok(()),
@@ -63,7 +63,7 @@ fn add_bit(builder: &mut Builder, number: u32, place: u32) -> Result<(), AllocEr
 /// After an error some of them may be nets.
 fn add_bits(builder: &mut Builder, number: u32, width: u32) -> Result<(), AllocError>
     requires { CanMake builder.old number width }
-    ensures { OnOk result (builder.new ≡ with_bits builder.old (bits_of number width)) }
+    ensures { OnOk result (builder.new ≡ with_more_bits builder.old (bits_of number width)) }
 {
     'places: for place in 0..width {
         add_bit(builder, number, place)?;

@@ -9,7 +9,7 @@ use Rattle.std.specs.List.Sorted.{IsStrictlyIncreasing}
 use Rattle.std.specs.Set.{distinct_count}
 use Rattle.bb_netlist.specs.Net.{Gate}
 use Rattle.bb_chosen.specs.ChosenPlan.{AreCutsOf}
-use Rattle.bb_choose.specs.Coding.{IsReady}
+use Rattle.bb_choose.specs.Coding.{CanTakeColumns}
 use Rattle.bb_choose.proofs.ReadyLemmas.{ready}
 use Rattle.bb_choose.proofs.arranged.arranged.Goals as goal
 
@@ -39,7 +39,7 @@ returns-clause-ready c =
     } in
     let few = c.in_ok-draft.ensures.few (subst IsStrictlyIncreasing (sym same) ascending) in
     let nets = c.requires.few in
-    subst (IsReady (length (driven a))) (sym c.in_ok-group.ensures.grouped)
+    subst (CanTakeColumns (length (driven a))) (sym c.in_ok-group.ensures.grouped)
     (ready a cuts draft most cuts_are are c.in_ok-draft.ensures.leaves (omega (arith, few, nets)) c.requires.settings.register_least c.requires.settings.register_most)
 
 pub returns-clause-narrow : goal.returns-clause-narrow
