@@ -5,8 +5,8 @@ ghost use Rattle.bb_netlist.specs.Order.{IsOrder};
 
 use bb_edge::MemStore;
 use bb_eqn::settle;
+use bb_named::read_named;
 use bb_net::{Named, Order};
-use bb_top::read_named;
 use std::alloc::{AllocError, Global};
 use std::process::Abort;
 use std::test::Fail;

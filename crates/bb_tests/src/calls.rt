@@ -199,7 +199,8 @@ fn the_first_fault_is_answered_and_names_the_least_net(rt: HostRuntime) -> Resul
 
 #[test]
 fn a_call_ends_by_its_words_and_its_first_failure(rt: HostRuntime) -> Result<(), TestFail> {
-    let usage = "usage: bilbo compile IN PREFIX [options]\n";
+    let usage =
+        "usage: bilbo compile IN PREFIX [options] | check IN PREFIX | sample N PREFIX [options]\n";
     let whole = "compile half.v out";
     let rows = [
         ("compile", None, None, (2, usage, "old")),
@@ -209,8 +210,8 @@ fn a_call_ends_by_its_words_and_its_first_failure(rt: HostRuntime) -> Result<(),
         ("compile -half.v out", None, None, (2, usage, "old")),
         ("compile half.v -", None, None, (2, usage, "old")),
         ("compile half.v ", None, None, (2, usage, "old")),
-        ("check half.v out", None, None, (2, usage, "old")),
-        ("sample 1 out", None, None, (2, usage, "old")),
+        ("check half.v", None, None, (2, usage, "old")),
+        ("sample 0 out", None, None, (2, usage, "old")),
         (
             "compile half.v out --width=2 --width 2",
             None,
@@ -278,5 +279,20 @@ fn a_fault_of_reading_comes_before_one_of_the_text(rt: HostRuntime) -> Result<()
         ("", "old"),
     )?;
     assert_eq!(rt; outcome, (3, true, true));
+    Ok(())
+}
+
+/// Each statement drives 65,536 bits anew.
+#[test]
+fn nets_that_are_driven_again_are_found_before_gates_are_made(
+    rt: HostRuntime,
+) -> Result<(), TestFail> {
+    let front = "module m (y);\noutput y;\nwire [65535:0] a, b;\n";
+    let mut text = String::from_str(rt.alloc(), front)?;
+    for _ in 0..5_000 {
+        text.push_str("assign a=b;")?;
+    }
+    text.push_str("\nendmodule\n")?;
+    assert!(rt; is_refused(rt.alloc(), text.as_str(), "two drivers a[65535]")?);
     Ok(())
 }

@@ -4,9 +4,15 @@
 #![tactic(auto)]
 
 #[cfg(test)]
+mod benchmark;
+#[cfg(test)]
+mod bytes;
+#[cfg(test)]
 mod calls;
 #[cfg(test)]
 mod canonical;
+#[cfg(test)]
+mod compiled;
 #[cfg(test)]
 mod half;
 #[cfg(test)]
