@@ -8,7 +8,6 @@ pub mod NamedBits
 pub mod NamedLaws
 pub mod NumberLaws
 pub mod NumberedNets
-pub mod OnlyMemory
 pub mod PlaceSteps
 pub mod RangeLaws
 pub mod RoomLaws

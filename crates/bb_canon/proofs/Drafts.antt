@@ -1,6 +1,6 @@
 -- What a draft keeps of its builder.
-use Rattle.std.proofs.Common.{◌≡◌, ℕ, ◌≤◌, ◌<◌, Bool, true, false, ◌&&◌, zero, suc, List, [], ◌∷◌, ◌++◌, length, map, Some, All, slice_get, refl, sym, ap, ◌∙◌, arith, length-append, get_or, if◌then◌else◌, subst}
-use Rattle.std.specs.List.{list_all, AllByRecursion, list_any}
+use Rattle.std.proofs.Common.{◌≡◌, ℕ, ◌≤◌, ◌<◌, Bool, true, false, ◌&&◌, zero, suc, List, [], ◌∷◌, ◌++◌, length, map, Some, All, slice_get, refl, sym, ap, ◌∙◌, arith, get_or, subst}
+use Rattle.std.specs.List.{list_all, AllByRecursion}
 use Rattle.std.proofs.lemmas.Option.{slice_get_within, slice_get-get_or}
 use Rattle.std.proofs.lemmas.List.Quantifiers.{position-Some}
 use Rattle.std.proofs.lemmas.Slice.Eq.{bytes_eq-Decides}
@@ -9,20 +9,11 @@ use Rattle.bb_base.proofs.Lists.{get_map}
 use Rattle.std.proofs.lemmas.List.Elements.{All-from_recursion, All-weaker, All-push}
 use Rattle.bb_base.specs.declared.variable.Variable.{Variable}
 use Rattle.bb_base.specs.declared.variable.BitName.{BitName}
-use Rattle.bb_base.specs.Variables.{Entry, IsBit, range_width, bit_eq}
+use Rattle.bb_base.specs.Variables.{Entry, IsBit, range_width}
 use Rattle.bb_net.specs.Named.{Named, lookup_of}
-use Rattle.bb_net.specs.Building.{with_net}
 
 pub names_within : (names : List BitName) (net : ℕ) (bit : BitName) → slice_get names net ≡ Some bit → net < length names
 names_within names net bit h = slice_get_within names net bit h
-
--- a net more at most
-pub net_grows : (n : Named) (bit : BitName) → length n.names ≤ length (with_net n bit).names
-net_grows n bit = go (list_any (bit_eq bit) n.names)
-  where
-    go : (b : Bool) → length n.names ≤ length (if b then n.names else n.names ++ bit ∷ [])
-    go true = omega arith
-    go false = omega (arith, length-append n.names (bit ∷ []))
 
 -- nets stay nets
 pub nets_more : (nets new : List ℕ) (net old now : ℕ) → old ≤ now → net < now → new ≡ nets ++ net ∷ [] → All (λ m. m < old) nets → All (λ m. m < now) new

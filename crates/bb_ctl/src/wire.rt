@@ -3,7 +3,7 @@ ghost use Rattle.bb_ctl.specs.Wires.{wire_label};
 ghost use Rattle.bb_ctl.specs.Numbering.{kept_of};
 
 /// A net of the written netlist, by what it is for. A number is a bit of the complete register, a session, a register or a cell.
-#[derive(Clone, Copy, Debug, Default, PartialEq, Eq)]
+#[derive(Clone, Copy, Default, PartialEq, Eq)]
 pub enum Wire {
     /// The net of this number of the original.
     Kept(u32),

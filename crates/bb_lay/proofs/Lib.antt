@@ -1,4 +1,3 @@
-pub mod OnlyMemory
 pub mod Ascending
 pub mod Standing
 pub mod Adding

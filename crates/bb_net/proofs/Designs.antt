@@ -7,7 +7,7 @@ use Rattle.bb_netlist.specs.Net.{Gate, renamed, renamed_gate, driven}
 use Rattle.bb_netlist.specs.Run.{IsRunBy, at}
 use Rattle.bb_net.specs.Named.{Named, IsNamed, IsClock, Design, design_of, net_text}
 use Rattle.bb_net.specs.Sites.{Site, Sited, sited, site_of, site_of_bit}
-use Rattle.bb_netlist.proofs.Renamed.{run_named_by}
+use Rattle.bb_net.proofs.CarriedRuns.{run_named_by}
 use Rattle.bb_net.proofs.Renaming.{OfAllNets, nets_below, renamed_twice, renamed_alike, OneToOne, names_distinct, net_named, found, finds_all, at_map}
 use Rattle.bb_net.proofs.SiteLemmas.{site_eq, site_decides, same_text, text_decides, net_bit, net_by_site, net_by_text, text_at, text_of_site}
 use Rattle.bb_base.proofs.Distinct.{Distinct}

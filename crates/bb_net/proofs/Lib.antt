@@ -4,5 +4,7 @@ pub mod VariableLemmas
 pub mod NamedLemmas
 pub mod Renaming
 pub mod SiteLemmas
+pub mod CarriedRuns
 pub mod Designs
 pub mod CountLemmas
+pub mod OnlyMemory

@@ -3,7 +3,7 @@ use Rattle.std.proofs.Common.{◌≡◌, List, [], ◌∷◌, ◌++◌, Bool, ma
 use Rattle.std.specs.List.{AllByRecursion, flat_map}
 use Rattle.bb_netlist.specs.Net.{Gate, Flop, Netlist, renamed, renamed_gate, renamed_flop, driven, reads}
 use Rattle.bb_netlist.specs.Run.{IsRun, IsRunBy, SettlesBy, MeetsBy, by_op, next_states}
-use Rattle.bb_base.proofs.Lists.{map_join, map_twice, all_map, all_map_back, both_map, map_alike}
+use Rattle.bb_base.proofs.Lists.{map_join, map_twice, all_map, all_map_back}
 
 -- the nets that it drives and reads
 pub driven_renamed : {M N : Type 0} (f : M → N) (n : Netlist M) → driven (renamed f n) ≡ map f (driven n)
@@ -70,30 +70,9 @@ module _ {M N : Type 0} (f : M → N) (gives : Gate N → List Bool → Bool) (n
   run_forth_by s [] (v ∷ vs) h = h
   run_forth_by s (i ∷ is) [] h = h
 
--- values under the old names, carried to the new ones
-pub run_named_by : {M N : Type 0} (f : M → N) (g : N → M) (gives : Gate N → List Bool → Bool) (n : Netlist M) → FindsAll f g n → (s : List Bool) (is : List (List Bool)) (ws : List (M → Bool))
-    → IsRunBy (meaning_of f gives) n s is ws → IsRunBy gives (renamed f n) s is (map (λ w k. w (g k)) ws)
-run_named_by f g gives n named s [] [] h = tt
-run_named_by {M} {N} f g gives n named s (i ∷ is) (w ∷ ws) h =
-    let v : N → Bool = λ k. w (g k) in
-    let val : SettlesBy gives (renamed f n) i s v = record {
-      inputs = map_alike v f w (Back f g) (λ x e. ap w e) n.inputs named.inputs ∙ h.0.inputs;
-      state = map_alike (λ (p : Flop N). v p.q) (renamed_flop f) (λ (p : Flop M). w p.q) (λ (p : Flop M). Back f g p.q × Back f g p.d) (λ p e. ap w e.0) n.flops named.flops ∙ h.0.state;
-      gates = both_map (MeetsBy gives v) (MeetsBy (meaning_of f gives) w) (λ (q : Gate M). Back f g q.out × AllByRecursion (Back f g) q.ins) (renamed_gate f)
-          (λ q m e. ap w e.0 ∙ m ∙ ap (gives (renamed_gate f q)) (sym (map_alike v f w (Back f g) (λ x d. ap w d) q.ins e.1))) n.gates h.0.gates named.gates;
-    } in
-    let next : next_states (renamed f n) v ≡ next_states n w = map_alike (λ (p : Flop N). v p.d) (renamed_flop f) (λ (p : Flop M). w p.d) (λ (p : Flop M). Back f g p.q × Back f g p.d) (λ p e. ap w e.1) n.flops named.flops in
-    (val, subst (λ t. IsRunBy gives (renamed f n) t is (map (λ u k. u (g k)) ws)) (sym next) (run_named_by f g gives n named (next_states n w) is ws h.1))
-run_named_by f g gives n named s [] (w ∷ ws) h = h
-run_named_by f g gives n named s (i ∷ is) [] h = h
-
 -- the same where each gate is as its operator says
 pub run_back : {M N : Type 0} (f : M → N) (n : Netlist M) (s : List Bool) (is : List (List Bool)) (vs : List (N → Bool)) → IsRun (renamed f n) s is vs → IsRun n s is (map (λ v m. v (f m)) vs)
 run_back f n s is vs h = run_back_by f by_op n s is vs h
 
 pub run_forth : {M N : Type 0} (f : M → N) (n : Netlist M) (s : List Bool) (is : List (List Bool)) (vs : List (N → Bool)) → IsRun n s is (map (λ v m. v (f m)) vs) → IsRun (renamed f n) s is vs
 run_forth f n s is vs h = run_forth_by f by_op n s is vs h
-
-pub run_named : {M N : Type 0} (f : M → N) (g : N → M) (n : Netlist M) → FindsAll f g n → (s : List Bool) (is : List (List Bool)) (ws : List (M → Bool))
-    → IsRun n s is ws → IsRun (renamed f n) s is (map (λ w k. w (g k)) ws)
-run_named f g n named s is ws h = run_named_by f g by_op n named s is ws h

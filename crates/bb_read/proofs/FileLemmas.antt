@@ -13,9 +13,6 @@ pub record AreWritten (done : List FileValue) (old new : List ℕ → Told) : Ty
   pub whole : AreWhole done new
   pub others : SameButAll (names_of done) old new
 
-pub written_none : (old : List ℕ → Told) → AreWritten [] old old
-written_none old = record { whole = tt; others = λ other out. refl }
-
 -- a name among those of files is one of a file
 pub named_by : (files : List FileValue) (name : List ℕ) → Contains (names_of files) name → (f : FileValue) × Contains files f × (f.0 ≡ name)
 named_by [] name h = absurd (none_in name h)

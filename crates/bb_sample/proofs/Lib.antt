@@ -1,4 +1,3 @@
-pub mod OnlyMemory
 pub mod DrawLemmas
 pub mod NetLemmas
 pub mod GateLemmas

@@ -22,7 +22,7 @@ abbrev pub role_sites : (Role → Bool) → Option BitName → ℕ → List Entr
 role_sites passes clock n [] = []
 role_sites passes clock n (v ∷ vs) = (if passes v.1.role then map (site_in (Some v)) (places_but (clock_place clock n) (range_width v.1.range)) else []) ++ role_sites passes clock (n + 1) vs
 
-sites_are : (all : List Entry) (passes : Role → Bool) (clock : Option BitName) (n : ℕ) (vs : List Entry) → ((i : ℕ) (x : Entry) → slice_get vs i ≡ Some x → slice_get all (n + i) ≡ Some x)
+pub sites_are : (all : List Entry) (passes : Role → Bool) (clock : Option BitName) (n : ℕ) (vs : List Entry) → ((i : ℕ) (x : Entry) → slice_get vs i ≡ Some x → slice_get all (n + i) ≡ Some x)
     → map (site_of_bit all) (role_bits passes clock n vs) ≡ role_sites passes clock n vs
 sites_are all passes clock n [] h = refl
 sites_are all passes clock n (v ∷ vs) h =
@@ -41,7 +41,7 @@ sites_are all passes clock n (v ∷ vs) h =
     by true = map_twice (site_of_bit all) (bit_at n) places ∙ same_map (λ q. site_of_bit all (bit_at n q)) (site_in (Some v)) (λ q. ap (λ o. site_in o q) here) places
     by false = refl
 
-sites_join : (passes : Role → Bool) (clock : Option BitName) (n : ℕ) (xs ys : List Entry) → role_sites passes clock n (xs ++ ys) ≡ role_sites passes clock n xs ++ role_sites passes clock (n + length xs) ys
+pub sites_join : (passes : Role → Bool) (clock : Option BitName) (n : ℕ) (xs ys : List Entry) → role_sites passes clock n (xs ++ ys) ≡ role_sites passes clock n xs ++ role_sites passes clock (n + length xs) ys
 sites_join passes clock n [] ys =
     let e : n ≡ n + 0 = omega arith in
     ap (λ k. role_sites passes clock k ys) e
@@ -51,7 +51,7 @@ sites_join passes clock n (v ∷ xs) ys =
     ap (λ ks. here ++ ks) (sites_join passes clock (n + 1) xs ys ∙ ap (λ k. role_sites passes clock (n + 1) xs ++ role_sites passes clock k ys) e)
     ∙ sym (append_assoc here (role_sites passes clock (n + 1) xs) (role_sites passes clock (n + suc (length xs)) ys))
 
-sites_none : (passes : Role → Bool) (clock : Option BitName) (n : ℕ) (vs : List Entry) → AllByRecursion (λ (v : Entry). passes v.1.role ≡ false) vs → role_sites passes clock n vs ≡ []
+pub sites_none : (passes : Role → Bool) (clock : Option BitName) (n : ℕ) (vs : List Entry) → AllByRecursion (λ (v : Entry). passes v.1.role ≡ false) vs → role_sites passes clock n vs ≡ []
 sites_none passes clock n [] h = refl
 sites_none passes clock n (v ∷ vs) h =
     let places : List Site = map (site_in (Some v)) (places_but (clock_place clock n) (range_width v.1.range)) in

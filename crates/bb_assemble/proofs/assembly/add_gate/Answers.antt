@@ -3,7 +3,7 @@ use Rattle.bb_base.specs.Operators.{IsArity}
 use Rattle.bb_base.proofs.Lists.{length_map}
 use Rattle.bb_assemble.specs.Assembling.{number_for}
 use Rattle.bb_assemble.proofs.KeptGates.{nets_small}
-use Rattle.bb_assemble.proofs.OnlyMemory.{gate_memory}
+use Rattle.bb_net.proofs.OnlyMemory.{gate_memory}
 use Rattle.bb_assemble.proofs.assembly.add_gate.Goals as goal
 
 pub gate-requires-clause-ins : goal.gate-requires-clause-ins

@@ -10,7 +10,7 @@ use Rattle.bb_drive.specs.Origins.{is_marked}
 use Rattle.bb_assemble.proofs.BuiltLaws.{AreFlags, same_flags, flags_long, all_below, all_few, IsNumbered, numbered, keeps_ports, names_kept, names_count, HasParts, parts_of, assembled, clocked}
 use Rattle.bb_assemble.proofs.FewLaws.{gates_fewer, flops_fewer, driven_once}
 use Rattle.bb_assemble.proofs.KeptLaws.{clock_is_input}
-use Rattle.bb_assemble.proofs.OnlyMemory.{finish_memory}
+use Rattle.bb_net.proofs.OnlyMemory.{finish_memory}
 use Rattle.std.proofs.lemmas.List.Elements.{recursion_from_All}
 use Rattle.bb_assemble.proofs.KeptNets.{IsFineWork}
 use Rattle.bb_assemble.proofs.KeptGates.{gates_have, flops_have}

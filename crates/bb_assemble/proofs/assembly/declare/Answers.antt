@@ -1,5 +1,5 @@
 use Rattle.std.proofs.Common.{arith, ap, sym, Err, ◌∙◌}
-use Rattle.bb_assemble.proofs.OnlyMemory.{variable_memory}
+use Rattle.bb_net.proofs.OnlyMemory.{variable_memory}
 use Rattle.bb_assemble.proofs.assembly.declare.Goals as goal
 
 pub only_memory-requires : goal.only_memory-requires

@@ -1,6 +1,6 @@
 use Rattle.std.proofs.Common.{arith, ap, Err}
 use Rattle.bb_base.specs.Variables.{bit_at}
-use Rattle.bb_lay.proofs.OnlyMemory.{net_memory}
+use Rattle.bb_net.proofs.OnlyMemory.{net_memory}
 use Rattle.bb_lay.proofs.Bits.{net_length, net_pushed}
 use Rattle.bb_lay.proofs.declare.add_bit.Goals as goal
 

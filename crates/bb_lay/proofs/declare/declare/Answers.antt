@@ -1,5 +1,5 @@
 use Rattle.std.proofs.Common.{arith, sym, ap, Err, refl, ◌∙◌, [], ◌∷◌, length}
-use Rattle.bb_lay.proofs.OnlyMemory.{variable_memory}
+use Rattle.bb_net.proofs.OnlyMemory.{variable_memory}
 use Rattle.bb_lay.proofs.Standing.{bits_join, last_few, last_entry, last_ports, last_new, port_few}
 use Rattle.bb_lay.proofs.declare.declare.Goals as goal
 

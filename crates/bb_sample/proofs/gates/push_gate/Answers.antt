@@ -1,5 +1,5 @@
 use Rattle.std.proofs.Common.{Err, ap}
-use Rattle.bb_sample.proofs.OnlyMemory.{gate_memory}
+use Rattle.bb_net.proofs.OnlyMemory.{gate_memory}
 use Rattle.bb_sample.proofs.gates.push_gate.Goals as goal
 
 pub out_of_memory-requires : goal.out_of_memory-requires

@@ -2,7 +2,7 @@ use Rattle.std.proofs.Common.{Err, ap, arith}
 use Rattle.std.specs.List.{list_any}
 use Rattle.bb_base.specs.Variables.{bit_at, bit_eq}
 use Rattle.bb_net.proofs.ConsistentLemmas.{one_more}
-use Rattle.bb_sample.proofs.OnlyMemory.{net_memory}
+use Rattle.bb_net.proofs.OnlyMemory.{net_memory}
 use Rattle.bb_sample.proofs.VectorLemmas.{net_pushed}
 use Rattle.bb_sample.proofs.ports.add_bit.Goals as goal
 

@@ -1,5 +1,5 @@
 use Rattle.std.proofs.Common.{arith, ap, Err}
-use Rattle.bb_lay.proofs.OnlyMemory.{finish_memory}
+use Rattle.bb_net.proofs.OnlyMemory.{finish_memory}
 use Rattle.bb_weave.proofs.written.finished.Goals as goal
 
 pub out_of_memory-requires : goal.out_of_memory-requires
