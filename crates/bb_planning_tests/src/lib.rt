@@ -14,6 +14,8 @@ mod cycles;
 #[cfg(test)]
 mod forms;
 #[cfg(test)]
+mod lanes;
+#[cfg(test)]
 mod netlists;
 #[cfg(test)]
 mod plans;

@@ -1,19 +1,18 @@
--- Gates that are evaluated in an order, where some are left out.
-use Rattle.std.proofs.Common.{◌≡◌, ℕ, ◌+◌, ◌<◌, ◌≤◌, Bool, true, false, List, [], ◌∷◌, length, map, filter, cond, refl, sym, ap, ◌∙◌, slice_get, Option, None, Some, get_or, set, drop, All, Contains}
-use Rattle.std.proofs.lemmas.List.{drop_all, drop_more}
-use Rattle.std.proofs.lemmas.List.Elements.{recursion_from_All}
+-- Gates that stand in an order, where some are left out.
+use Rattle.std.proofs.Common.{◌≡◌, ◌≢◌, ℕ, ◌+◌, ◌<◌, ◌≤◌, Bool, true, false, List, [], ◌∷◌, ◌++◌, length, map, filter, cond, refl, sym, ap, ◌∙◌, slice_get, Option, None, Some, get_or, drop, Contains}
+use Rattle.std.proofs.lemmas.List.{append-nil, append_assoc, drop_all, drop_more}
+use Rattle.std.proofs.lemmas.List.Elements.{All-from_recursion}
 use Rattle.std.proofs.lemmas.Option.{slice_get-get_or}
 use Rattle.std.specs.List.{AllByRecursion}
-use Rattle.bb_base.proofs.Contained.{of_all}
+use Rattle.bb_base.proofs.Contained.{of_all, to_all}
 use Rattle.bb_netlist.specs.Net.{Gate, times}
 use Rattle.bb_netlist.specs.Order.{drivers, IsOrder}
-use Rattle.bb_netlist.specs.Run.{Meets}
-use Rattle.bb_eqn.specs.Values.{bits_at}
 use Rattle.bb_eqn.specs.Sequence.{WriteFirst}
-use Rattle.bb_eqn.proofs.Evaluated.{given, evaluated, evaluated_met, evaluated_kept, not_first, none_after, none_before}
+use Rattle.bb_eqn.proofs.Evaluated.{not_first, none_after, none_before}
 use Rattle.bb_eqn.proofs.Picked.{before, picked, to_picked}
 use Rattle.bb_eqn.proofs.Settled.{order_first, order_all}
 use Rattle.bb_sign.specs.Bits.{noted_column}
+use Rattle.bb_sign.specs.Evaluation.{AreOpenGates}
 
 -- there is no entry
 abbrev pub lacks : Option ℕ → Bool
@@ -63,15 +62,6 @@ of_kept P f (g ∷ gates) all = by (f g) refl all (λ rest. of_kept P f gates re
     by true e all rest = (λ passes. all.0, rest all.1)
     by false e all rest = (λ passes. absurd (cc (e, passes)), rest all)
 
--- a net whose gates are left out
-left_out : (f : Gate ℕ → Bool) (gates : List (Gate ℕ)) (net : ℕ) → ((g : Gate ℕ) → g.out ≡ net → f g ≡ false) → drivers (filter f gates) net ≡ []
-left_out f [] net out = refl
-left_out f (g ∷ gates) net out = by (f g) refl (left_out f gates net out)
-  where
-    by : (b : Bool) → f g ≡ b → drivers (filter f gates) net ≡ [] → drivers (cond b (g ∷ filter f gates) (filter f gates)) net ≡ []
-    by true e rest = none_before g (filter f gates) net (λ same. let no = out g same in absurd (cc (e, no))) rest
-    by false e rest = rest
-
 -- the gates of an order from a place on, without those whose nets have a column
 abbrev pub walked : List (Gate ℕ) → List (Option ℕ) → List ℕ → List (Gate ℕ)
 walked gates columns order = filter (is_open columns) (picked gates order)
@@ -83,44 +73,50 @@ next_gates gates columns order place g less small is =
     let front : picked gates (drop place order) ≡ g ∷ picked gates (drop (place + 1) order) = ap (picked gates) (drop_more order place 0 less) ∙ ap (λ (o : Option (Gate ℕ)). before o (picked gates (drop (place + 1) order))) there in
     ap (filter (is_open columns)) front
 
--- a gate is evaluated, or left out
-walked_more : (gates : List (Gate ℕ)) (columns : List (Option ℕ)) (order : List ℕ) (place : ℕ) (g : Gate ℕ) (values new whole : List Bool) → place < length order → get_or order place 0 < length gates
-    → g ≡ get_or gates (get_or order place 0) g → is_open columns g ≡ true → new ≡ set values g.out (given g values) → evaluated (walked gates columns (drop place order)) values ≡ whole
-    → evaluated (walked gates columns (drop (place + 1) order)) new ≡ whole
-walked_more gates columns order place g values new whole less small is opens next so_far =
-    let front = next_gates gates columns order place g less small is ∙ ap (λ b. cond b (g ∷ walked gates columns (drop (place + 1) order)) (walked gates columns (drop (place + 1) order))) opens in
-    ap (evaluated (walked gates columns (drop (place + 1) order))) next ∙ (ap (λ (gs : List (Gate ℕ)). evaluated gs values) (sym front) ∙ so_far)
+-- the gate is listed, or left out
+pub walked_with : (gates : List (Gate ℕ)) (columns : List (Option ℕ)) (order : List ℕ) (place : ℕ) (g : Gate ℕ) (listed whole : List (Gate ℕ)) → place < length order → get_or order place 0 < length gates → g ≡ get_or gates (get_or order place 0) g
+    → noted_column columns g.out ≡ None → listed ++ walked gates columns (drop place order) ≡ whole → (listed ++ g ∷ []) ++ walked gates columns (drop (place + 1) order) ≡ whole
+walked_with gates columns order place g listed whole less small is none so_far =
+    let front = next_gates gates columns order place g less small is ∙ ap (λ o. cond (lacks o) (g ∷ walked gates columns (drop (place + 1) order)) (walked gates columns (drop (place + 1) order))) none in
+    append_assoc listed (g ∷ []) (walked gates columns (drop (place + 1) order)) ∙ (ap (λ gs. listed ++ gs) (sym front) ∙ so_far)
 
-walked_past : (gates : List (Gate ℕ)) (columns : List (Option ℕ)) (order : List ℕ) (place : ℕ) (g : Gate ℕ) (values whole : List Bool) → place < length order → get_or order place 0 < length gates
-    → g ≡ get_or gates (get_or order place 0) g → is_open columns g ≡ false → evaluated (walked gates columns (drop place order)) values ≡ whole
-    → evaluated (walked gates columns (drop (place + 1) order)) values ≡ whole
-walked_past gates columns order place g values whole less small is closed so_far =
-    let front = next_gates gates columns order place g less small is ∙ ap (λ b. cond b (g ∷ walked gates columns (drop (place + 1) order)) (walked gates columns (drop (place + 1) order))) closed in
-    ap (λ (gs : List (Gate ℕ)). evaluated gs values) (sym front) ∙ so_far
+some_of : (o : Option ℕ) → o ≢ None → lacks o ≡ false
+some_of None some = absurd (some refl)
+some_of (Some column) some = refl
 
-pub walked_step : (gates : List (Gate ℕ)) (columns : List (Option ℕ)) (order : List ℕ) (place : ℕ) (g : Gate ℕ) (values new whole : List Bool) → place < length order → get_or order place 0 < length gates → g ≡ get_or gates (get_or order place 0) g
-    → (noted_column columns g.out ≡ None → new ≡ set values g.out (given g values)) → ((column : ℕ) → noted_column columns g.out ≡ Some column → new ≡ values) → evaluated (walked gates columns (drop place order)) values ≡ whole
-    → evaluated (walked gates columns (drop (place + 1) order)) new ≡ whole
-walked_step gates columns order place g values new whole less small is gives stays so_far = by (noted_column columns g.out) refl
+pub walked_without : (gates : List (Gate ℕ)) (columns : List (Option ℕ)) (order : List ℕ) (place : ℕ) (g : Gate ℕ) (listed whole : List (Gate ℕ)) → place < length order → get_or order place 0 < length gates → g ≡ get_or gates (get_or order place 0) g
+    → noted_column columns g.out ≢ None → listed ++ walked gates columns (drop place order) ≡ whole → listed ++ walked gates columns (drop (place + 1) order) ≡ whole
+walked_without gates columns order place g listed whole less small is some so_far =
+    let front = next_gates gates columns order place g less small is ∙ ap (λ b. cond b (g ∷ walked gates columns (drop (place + 1) order)) (walked gates columns (drop (place + 1) order))) (some_of (noted_column columns g.out) some) in
+    ap (λ gs. listed ++ gs) (sym front) ∙ so_far
+
+pub walked_end : (gates : List (Gate ℕ)) (columns : List (Option ℕ)) (order : List ℕ) (place : ℕ) (listed whole : List (Gate ℕ)) → length order ≤ place → listed ++ walked gates columns (drop place order) ≡ whole → listed ≡ whole
+walked_end gates columns order place listed whole past so_far = sym (append-nil listed) ∙ (ap (λ (hs : List ℕ). listed ++ walked gates columns hs) (sym (drop_all place order past)) ∙ so_far)
+
+-- the gates that are kept pass
+kept_pass : (f : Gate ℕ → Bool) (gates : List (Gate ℕ)) → AllByRecursion (λ g. f g ≡ true) (filter f gates)
+kept_pass f [] = tt
+kept_pass f (g ∷ gates) = by (f g) refl (kept_pass f gates)
   where
-    by : (o : Option ℕ) → noted_column columns g.out ≡ o → evaluated (walked gates columns (drop (place + 1) order)) new ≡ whole
-    by None e = walked_more gates columns order place g values new whole less small is (ap lacks e) (gives e) so_far
-    by (Some column) e = ap (evaluated (walked gates columns (drop (place + 1) order))) (stays column e) ∙ walked_past gates columns order place g values whole less small is (ap lacks e) so_far
+    by : (b : Bool) → f g ≡ b → AllByRecursion (λ g. f g ≡ true) (filter f gates) → AllByRecursion (λ g. f g ≡ true) (cond b (g ∷ filter f gates) (filter f gates))
+    by true e rest = (e, rest)
+    by false e rest = rest
 
-pub walked_end : (gates : List (Gate ℕ)) (columns : List (Option ℕ)) (order : List ℕ) (place : ℕ) (values whole : List Bool) → length order ≤ place → evaluated (walked gates columns (drop place order)) values ≡ whole → values ≡ whole
-walked_end gates columns order place values whole past so_far = ap (λ (hs : List ℕ). evaluated (walked gates columns hs) values) (sym (drop_all place order past)) ∙ so_far
+none_of : (o : Option ℕ) → lacks o ≡ true → o ≡ None
+none_of None e = refl
+none_of (Some column) e = absurd (cc e)
 
--- the gates of nets without a column meet their equations
-pub walked_met : (gates : List (Gate ℕ)) (columns : List (Option ℕ)) (order : List ℕ) (values : List Bool) → IsOrder gates order → ((net : ℕ) → times net (map (λ g. g.out) gates) ≤ 1) → All (λ g. g.out < length values) gates
-    → (g : Gate ℕ) → Contains gates g → noted_column columns g.out ≡ None → Meets (bits_at (evaluated (walked gates columns order) values)) g
-walked_met gates columns order values o once within g stands none =
-    let inside = to_picked (λ g. g.out < length values) gates order (recursion_from_All (λ g. g.out < length values) gates within) in
-    let met = evaluated_met (walked gates columns order) values (kept_all (λ g. g.out < length values) (is_open columns) (picked gates order) inside) (kept_first (is_open columns) (picked gates order) (order_first gates order o once)) in
-    let each = of_kept (Meets (bits_at (evaluated (walked gates columns order) values))) (is_open columns) (picked gates order) met in
-    of_all (λ (g : Gate ℕ). is_open columns g ≡ true → Meets (bits_at (evaluated (walked gates columns order) values)) g) gates g
-    (order_all (λ g. is_open columns g ≡ true → Meets (bits_at (evaluated (walked gates columns order) values)) g) gates order o each) stands (ap lacks none)
-
--- and nets with a column keep their bits
-pub walked_kept : (gates : List (Gate ℕ)) (columns : List (Option ℕ)) (order : List ℕ) (values : List Bool) (net column : ℕ) → noted_column columns net ≡ Some column → bits_at (evaluated (walked gates columns order) values) net ≡ bits_at values net
-walked_kept gates columns order values net column some =
-    evaluated_kept (walked gates columns order) values net (left_out (is_open columns) (picked gates order) net (λ g same. ap (λ n. lacks (noted_column columns n)) same ∙ ap lacks some))
+-- the gates of nets without a column
+pub open_gates : (gates : List (Gate ℕ)) (columns : List (Option ℕ)) (order : List ℕ) → IsOrder gates order → ((net : ℕ) → times net (map (λ g. g.out) gates) ≤ 1) → AreOpenGates gates columns (walked gates columns order)
+open_gates gates columns order o once =
+    let f = is_open columns in
+    let whole = walked gates columns order in
+    record {
+      stand = All-from_recursion (Contains gates) whole (kept_all (Contains gates) f (picked gates order) (to_picked (Contains gates) gates order (to_all (Contains gates) gates (λ g h. h))));
+      without = All-from_recursion (λ (g : Gate ℕ). noted_column columns g.out ≡ None) whole
+          (to_all (λ (g : Gate ℕ). noted_column columns g.out ≡ None) whole (λ g h. none_of (noted_column columns g.out) (of_all (λ g. f g ≡ true) whole g (kept_pass f (picked gates order)) h)));
+      all = λ g stands none.
+          of_all (λ (g : Gate ℕ). f g ≡ true → Contains whole g) gates g
+          (order_all (λ g. f g ≡ true → Contains whole g) gates order o (of_kept (Contains whole) f (picked gates order) (to_all (Contains whole) whole (λ g h. h)))) stands (ap lacks none);
+      first = kept_first f (picked gates order) (order_first gates order o once);
+    }

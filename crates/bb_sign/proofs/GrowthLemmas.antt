@@ -1,5 +1,5 @@
 -- A register's signature, state after state.
-use Rattle.std.proofs.Common.{arith, ◌≡◌, ℕ, zero, suc, ◌+◌, ◌*◌, ◌%◌, ◌<◌, ◌^◌, Bool, List, [], ◌∷◌, ◌++◌, length, map, refl, sym, ap, subst, ◌∙◌, slice_get, Some, get_or}
+use Rattle.std.proofs.Common.{arith, ◌≡◌, ℕ, zero, suc, ◌+◌, ◌*◌, ◌%◌, ◌<◌, ◌≤◌, ◌^◌, Bool, List, [], ◌∷◌, ◌++◌, length, map, refl, sym, ap, subst, ◌∙◌, slice_get, Some, get_or, Contains}
 use Rattle.std.proofs.lemmas.Nat.{pow_pos}
 use Rattle.std.specs.List.{AllByRecursion, AllZip, range_with_len}
 use Rattle.bb_base.proofs.Contained.{to_all, place_of}
@@ -15,14 +15,18 @@ use Rattle.bb_creg.proofs.Growth.{grows, length_signature}
 use Rattle.bb_creg.proofs.BitSteps.{bits-signature}
 use Rattle.bb_creg.proofs.WalkSteps.{size_is}
 use Rattle.bb_rules.specs.declared.plan.Cell.{Cell}
-use Rattle.bb_rules.specs.Plan.{PlanValue, has_input}
+use Rattle.bb_rules.specs.Plan.{RegisterValue, PlanValue, has_input}
 use Rattle.bb_rules.specs.Rules.{Kinds, Fits, IsFrame}
 use Rattle.bb_rules.specs.Valid.{IsValidPlan}
 use Rattle.bb_rules.specs.Signatures.{IsLineBit}
+use Rattle.bb_eqn.specs.Values.{bits_at}
+use Rattle.bb_word.specs.Lanes.{in_lane}
+use Rattle.bb_word.proofs.SignatureLemmas.{next_below}
 use Rattle.bb_sign.specs.Bits.{AreBitsAt}
-use Rattle.bb_sign.specs.Compactors.{CompactorValue, IsCompactor, IsLineStart, AreHeld, AreSignedUntil, AreSigned, compacted, start_bit}
+use Rattle.bb_sign.specs.Compactors.{CompactorValue, IsCompactor, IsLineStart, AreHeld, AreSignedUntil, AreSigned, compacted, line_word, start_bit}
 use Rattle.bb_sign.proofs.ColumnLemmas.{in_chain}
 use Rattle.bb_sign.proofs.LineLemmas.{lines_are}
+use Rattle.bb_sign.proofs.WordLemmas.{word_below}
 use Rattle.bb_sign.proofs.ZipLemmas.{zip_long, zip_at}
 
 -- a range with its last number
@@ -67,25 +71,47 @@ grown f cells mask t held word new held_is word_is new_is small =
     ∙ (ap from_bits (stepped ∙ sym (grows k mask (cycles_of f cells t) lines))
     ∙ ap (λ cycles. from_bits (signature k mask cycles)) (sym (cycles_more f cells t)))
 
--- from one state to the next
-pub signed_more : (a : Netlist ℕ) (p : PlanValue) (compactors : List CompactorValue) (t : ℕ) (v : ℕ → Bool) (held new : List ℕ) → IsNetlist a → IsValidPlan a p → AllZip (IsCompactor a) p.registers compactors
-    → t < 2 ^ p.degree → AreBitsAt a p (state_after p.degree p.mask t) v → ((r : ℕ) (k : CompactorValue) → slice_get compactors r ≡ Some k → get_or new r 0 ≡ compacted a.gates v k (get_or held r 0)) → AreHeld compactors new
-    → AreSignedUntil a p t held → AreSignedUntil a p (suc t) new
-signed_more a p compactors t v held new fits valid zip less settled each small until r g written at none h =
-    let k = zip_at (IsCompactor a) p.registers compactors r g zip at in
-    let lines = k.2.lines none in
-    let long : length k.0.starts ≡ length g.cells = zip_long (IsLineStart a) g.cells k.0.starts lines in
-    let good : AllByRecursion (λ c. Fits a c × IsLineBit a p (state_after p.degree p.mask t) c (h.bits t c)) g.cells =
-    to_all (λ c. Fits a c × IsLineBit a p (state_after p.degree p.mask t) c (h.bits t c)) g.cells (λ c stands.
-    let place = place_of g.cells c stands in
-    let i = in_chain p r place.0 g c at place.1 in
-    (valid.meets Kinds i.0 c i.1, h.lines t c less stands)) in
-    let word = lines_are a p t v (h.bits t) fits valid.order settled g.cells k.0.starts good lines in
-    let next : get_or new r 0 ≡ next_signature (length g.cells) g.mask (get_or held r 0) (from_bits (map (start_bit a.gates v) k.0.starts)) =
-    each r k.0 k.1 ∙ (ap (λ n. next_signature n k.0.mask (get_or held r 0) (from_bits (map (start_bit a.gates v) k.0.starts))) long
-    ∙ ap (λ m. next_signature (length g.cells) m (get_or held r 0) (from_bits (map (start_bit a.gates v) k.0.starts))) k.2.mask) in
-    grown h.bits g.cells g.mask t (get_or held r 0) (from_bits (map (start_bit a.gates v) k.0.starts)) (get_or new r 0) (until r g written at none h) (ap from_bits word) next
-    (subst (λ n. get_or new r 0 < 2 ^ n) long (small.below r k.0 k.1))
+module _ (a : Netlist ℕ) (p : PlanValue) (fits : IsNetlist a) (valid : IsValidPlan a p) where
+  -- what a register with these lines holds before a state
+  abbrev HoldsAt : RegisterValue → (ℕ → Cell → Bool) → ℕ → ℕ
+  HoldsAt g f t = from_bits (signature (length g.cells) g.mask (cycles_of f g.cells t))
+
+  -- from one state to the next
+  next_holds : (r t : ℕ) (g : RegisterValue) (k : CompactorValue) (f : ℕ → Cell → Bool) (v : ℕ → Bool) → slice_get p.registers r ≡ Some g → k.mask ≡ g.mask → AllZip (IsLineStart a) g.cells k.starts → AreBitsAt a p (state_after p.degree p.mask t) v
+      → ((c : Cell) → Contains g.cells c → IsLineBit a p (state_after p.degree p.mask t) c (f t c)) → next_signature (length k.starts) k.mask (HoldsAt g f t) (line_word a.gates v k.starts) ≡ HoldsAt g f (suc t)
+  next_holds r t g k f v at masked lines settled bits =
+      let held = HoldsAt g f t in
+      let word = line_word a.gates v k.starts in
+      let long : length k.starts ≡ length g.cells = zip_long (IsLineStart a) g.cells k.starts lines in
+      let good : AllByRecursion (λ c. Fits a c × IsLineBit a p (state_after p.degree p.mask t) c (f t c)) g.cells =
+      to_all (λ c. Fits a c × IsLineBit a p (state_after p.degree p.mask t) c (f t c)) g.cells (λ c stands.
+      let place = place_of g.cells c stands in
+      let i = in_chain p r place.0 g c at place.1 in
+      (valid.meets Kinds i.0 c i.1, bits c stands)) in
+      let same = ap from_bits (lines_are a p t v (f t) fits valid.order settled g.cells k.starts good lines) in
+      let small : word < 2 ^ length g.cells = subst (λ n. word < 2 ^ n) long (word_below (start_bit a.gates v) k.starts) in
+      ap (λ n. next_signature n k.mask held word) long ∙ (ap (λ m. next_signature (length g.cells) m held word) masked
+      ∙ grown f g.cells g.mask t held word (next_signature (length g.cells) g.mask held word) refl same refl (next_below (length g.cells) g.mask held word small))
+
+  -- from one state to one some states later
+  later_holds : (r n count : ℕ) (g : RegisterValue) (k : CompactorValue) (f : ℕ → Cell → Bool) (values : List ℕ) → slice_get p.registers r ≡ Some g → k.mask ≡ g.mask → AllZip (IsLineStart a) g.cells k.starts
+      → ((t : ℕ) → t < count → AreBitsAt a p (state_after p.degree p.mask (n + t)) (bits_at (in_lane t values)))
+      → ((t : ℕ) → t < count → (c : Cell) → Contains g.cells c → IsLineBit a p (state_after p.degree p.mask (n + t)) c (f (n + t) c)) → compacted a.gates values k count (HoldsAt g f n) ≡ HoldsAt g f (n + count)
+  later_holds r n zero g k f values at masked lines settled bits = let e : n ≡ n + 0 = omega arith in ap (HoldsAt g f) e
+  later_holds r n (suc t) g k f values at masked lines settled bits =
+      let before = later_holds r n t g k f values at masked lines (λ i less. settled i (omega (arith, less))) (λ i less. bits i (omega (arith, less))) in
+      let e : suc (n + t) ≡ n + suc t = omega arith in
+      ap (λ q. next_signature (length k.starts) k.mask q (line_word a.gates (bits_at (in_lane t values)) k.starts)) before
+      ∙ (next_holds r (n + t) g k f (bits_at (in_lane t values)) at masked lines (settled t (omega arith)) (bits t (omega arith)) ∙ ap (HoldsAt g f) e)
+
+  -- all registers
+  pub signed_more : (compactors : List CompactorValue) (n count : ℕ) (values held new : List ℕ) → AllZip (IsCompactor a) p.registers compactors → n + count ≤ 2 ^ p.degree
+      → ((t : ℕ) → t < count → AreBitsAt a p (state_after p.degree p.mask (n + t)) (bits_at (in_lane t values)))
+      → ((r : ℕ) (k : CompactorValue) → slice_get compactors r ≡ Some k → get_or new r 0 ≡ compacted a.gates values k count (get_or held r 0)) → AreSignedUntil a p n held → AreSignedUntil a p (n + count) new
+  signed_more compactors n count values held new zip within settled each until r g written at none h =
+      let k = zip_at (IsCompactor a) p.registers compactors r g zip at in
+      each r k.0 k.1 ∙ (ap (compacted a.gates values k.0 count) (until r g written at none h)
+      ∙ later_holds r n count g k.0 h.bits values at k.2.mask (k.2.lines none) settled (λ t less c stands. h.lines (n + t) c (omega (arith, less, within)) stands))
 
 zeros_zero : (k : ℕ) → from_bits (zeros k) ≡ 0
 zeros_zero zero = refl

@@ -7,3 +7,8 @@ pub mod WordLemmas
 pub mod CompactorLemmas
 pub mod GrowthLemmas
 pub mod SessionLemmas
+pub mod SourceLemmas
+pub mod EvaluationLemmas
+pub mod PutLemmas
+pub mod TakenLemmas
+pub mod BlockLemmas

@@ -1,5 +1,5 @@
 -- The bits of lines at a state, where nets have theirs.
-use Rattle.std.proofs.Common.{◌≡◌, ℕ, ◌<◌, Bool, List, [], ◌∷◌, length, map, cond, refl, sym, ap, ◌∙◌, slice_get, get_or, Option, None, Some}
+use Rattle.std.proofs.Common.{◌≡◌, ℕ, ◌<◌, Bool, List, [], ◌∷◌, length, map, refl, sym, ap, ◌∙◌, slice_get, get_or, Some}
 use Rattle.std.proofs.lemmas.Option.{slice_get-get_or}
 use Rattle.std.specs.List.{AllByRecursion, AllZip}
 use Rattle.std.specs.Option.{option_map}
@@ -14,21 +14,12 @@ use Rattle.bb_segment.specs.declared.start.Start.{Start as CodeStart}
 use Rattle.bb_segment.specs.declared.start.Start.TheVariants.{Net, Gate as GateNumber}
 use Rattle.bb_rules.specs.declared.plan.Cell.{Cell}
 use Rattle.bb_rules.specs.Plan.{PlanValue}
-use Rattle.bb_rules.specs.Lines.{column_of}
 use Rattle.bb_rules.specs.Rules.{Fits}
 use Rattle.bb_rules.specs.Signatures.{IsLineBit}
-use Rattle.bb_rules.proofs.NetLemmas.{out_within}
 use Rattle.bb_rules.proofs.StopLemmas.{leaf_within}
 use Rattle.bb_rules.proofs.SignatureLemmas.{one_line_bit}
-use Rattle.bb_sign.specs.Bits.{AreReadColumns, AreBitsBy, AreBitsAt}
+use Rattle.bb_sign.specs.Bits.{AreBitsAt}
 use Rattle.bb_sign.specs.Compactors.{IsLineStart, line_bit_in, start_bit}
-
--- what the table gives is what a valid plan's stops have
-pub bits_at_state : (a : Netlist ℕ) (p : PlanValue) (columns : List (Option ℕ)) (state : ℕ) (v : ℕ → Bool) → IsNetlist a → AreReadColumns a p columns → AreBitsBy a.gates columns state v → AreBitsAt a p state v
-bits_at_state a p columns state v fits table bits = record {
-  coded = λ net within stops. bits.coded net (column_of p net) (table.each net within ∙ ap (λ b. cond b (Some (column_of p net)) None) stops);
-  met = λ g stands passes. bits.met g stands (table.each g.out (out_within a g fits stands) ∙ ap (λ b. cond b (Some (column_of p g.out)) None) passes);
-}
 
 start_there : (a : Netlist ℕ) (start : CodeStart) → StartExists a start → (from : Start ℕ) × (start_in a.gates start ≡ Some from)
 start_there a (Net net) h = (AtNet net, refl)

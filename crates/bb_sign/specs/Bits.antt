@@ -2,7 +2,6 @@
 use Rattle.std.specs.Prelude.{◌≡◌, ℕ, ◌<◌, ◌&&◌, ◌==◌, Bool, true, false, List, [], ◌∷◌, length, if◌then◌else◌, Option, None, Some, slice_index_or, Contains}
 use Rattle.bb_netlist.specs.Net.{Gate, Netlist, driven}
 use Rattle.bb_netlist.specs.Run.{Meets}
-use Rattle.bb_gf2.specs.Parity.{code_bit}
 use Rattle.bb_rules.specs.declared.plan.Cell.{Cell}
 use Rattle.bb_rules.specs.Kinds.{is_source}
 use Rattle.bb_rules.specs.Plan.{PlanValue}
@@ -26,11 +25,6 @@ pub record AreReadColumns (a : Netlist ℕ) (p : PlanValue) (columns : List (Opt
 abbrev pub last_column : List Cell → ℕ → Option ℕ → Option ℕ
 last_column [] net before = before
 last_column (c ∷ cells) net before = last_column cells net (if is_source c.kind && (c.net == net) then Some c.column else before)
-
--- nets with a column have their code bits, and the others what their gates give
-pub record AreBitsBy (gates : List (Gate ℕ)) (columns : List (Option ℕ)) (state : ℕ) (v : ℕ → Bool) : Type 0 where
-  pub coded : (net column : ℕ) → noted_column columns net ≡ Some column → v net ≡ code_bit column state
-  pub met : (g : Gate ℕ) → Contains gates g → noted_column columns g.out ≡ None → Meets v g
 
 -- stops have their code bits, and the other nets what their gates give
 pub record AreBitsAt (a : Netlist ℕ) (p : PlanValue) (state : ℕ) (v : ℕ → Bool) : Type 0 where

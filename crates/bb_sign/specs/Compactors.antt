@@ -1,5 +1,5 @@
 -- Registers as they take in their lines: where each line starts, and what a register holds after a state. No public contract cites this.
-use Rattle.std.specs.Prelude.{◌≡◌, ℕ, ◌<◌, ◌≤◌, ◌^◌, Bool, false, List, length, map, Option, None, Some, slice_get, slice_index, All}
+use Rattle.std.specs.Prelude.{◌≡◌, ℕ, ◌<◌, ◌≤◌, ◌^◌, zero, suc, Bool, false, List, length, map, Option, None, Some, slice_get, slice_index, All}
 use Rattle.std.specs.List.{AllZip, range_with_len}
 use Rattle.bb_netlist.specs.Net.{Gate, Netlist}
 use Rattle.bb_netlist.specs.Run.{by_op}
@@ -9,6 +9,8 @@ use Rattle.bb_segment.specs.Paths.{Start}
 use Rattle.bb_segment.specs.Function.{line_bit}
 use Rattle.bb_segment.specs.Support.{start_in, StartExists}
 use Rattle.bb_segment.specs.declared.start.Start.{Start as CodeStart}
+use Rattle.bb_eqn.specs.Values.{bits_at}
+use Rattle.bb_word.specs.Lanes.{in_lane}
 use Rattle.bb_rules.specs.declared.plan.Cell.{Cell}
 use Rattle.bb_rules.specs.Plan.{RegisterValue, PlanValue, has_input}
 use Rattle.bb_rules.specs.Lines.{IsStart}
@@ -48,9 +50,15 @@ start_bit gates v start = line_bit_in v (start_in gates start)
 abbrev pub line_word : List (Gate ℕ) → (ℕ → Bool) → List CodeStart → ℕ
 line_word gates v starts = from_bits (map (start_bit gates v) starts)
 
--- what a compactor holds after it took in its lines
-abbrev pub compacted : List (Gate ℕ) → (ℕ → Bool) → CompactorValue → ℕ → ℕ
-compacted gates v compactor held = next_signature (length compactor.starts) compactor.mask held (line_word gates v compactor.starts)
+-- what a register of so many cells holds after it took in its lines at so many states
+abbrev pub taken_in : ℕ → ℕ → (ℕ → ℕ) → ℕ → ℕ → ℕ
+taken_in cells mask lines zero held = held
+taken_in cells mask lines (suc t) held = next_signature cells mask (taken_in cells mask lines t held) (lines t)
+
+-- what a compactor holds after it took in its lines in so many lanes
+abbrev pub compacted : List (Gate ℕ) → List ℕ → CompactorValue → ℕ → ℕ → ℕ
+compacted gates values compactor count held =
+    taken_in (length compactor.starts) compactor.mask (λ t. line_word gates (bits_at (in_lane t values)) compactor.starts) count held
 
 -- each compactor holds a number of its length
 pub record AreHeld (compactors : List CompactorValue) (held : List ℕ) : Type 0 where

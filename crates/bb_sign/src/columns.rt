@@ -1,6 +1,6 @@
 //! The columns of source cells, by their nets.
 
-ghost use Rattle.std.specs.Prelude.{◌≡◌, ◌<◌, ℕ, None, length, All, IfOk};
+ghost use Rattle.std.specs.Prelude.{◌≡◌, ◌<◌, ◌^◌, ℕ, None, length, All, IfOk};
 ghost use Rattle.std.specs.List.{flat_map};
 ghost use Rattle.bb_rules.specs.Valid.{IsValidPlan};
 ghost use Rattle.bb_sign.specs.Bits.{noted_column, last_column, AreReadColumns};
@@ -48,7 +48,8 @@ pub(crate) fn columns_of(
     plan: &Plan,
 ) -> Result<Vec<Option<u32>>, AllocError>
     requires { IsValidPlan netlist.now plan.now }
-    ensures { IfOk result (λ columns. AreReadColumns netlist.now plan.now columns.items) }
+    ensures columns { IfOk result (λ columns. AreReadColumns netlist.now plan.now columns.items) }
+    ensures few { IfOk result (λ columns. length columns.items < 2 ^ 32) }
 {
     let mut columns = no_columns(alloc, netlist.nets())?;
     note_registers(&plan.registers, &mut columns);

@@ -3,18 +3,17 @@
 ghost use Rattle.std.specs.Prelude.{◌≡◌, ◌<◌, ◌≤◌, ◌^◌, ℕ, Some, length, All, IfOk, slice_get, slice_index};
 ghost use Rattle.std.specs.List.{AllZip};
 ghost use Rattle.bb_netlist.specs.Net.{driven, IsNetlist};
-ghost use Rattle.bb_creg.specs.Signature.{next_signature};
-ghost use Rattle.bb_segment.specs.Support.{StartExists};
+ghost use Rattle.bb_gf2.specs.Bits.{from_bits};
 ghost use Rattle.bb_rules.specs.Valid.{IsValidPlan};
-ghost use Rattle.bb_eqn.specs.Values.{bits_at};
-ghost use Rattle.bb_sign.specs.Compactors.{CompactorValue, HasFewLines, IsCompactor, AreHeld, start_bit, line_word, compacted};
+ghost use Rattle.bb_word.specs.Lanes.{in_lane};
+ghost use Rattle.bb_sign.specs.Compactors.{CompactorValue, HasFewLines, IsCompactor, AreHeld, taken_in, compacted};
 
-use crate::gate::bit_of;
+use crate::lines::rows_of;
 use crate::starts::starts_of;
-use bb_gf2::code_bit;
 use bb_netlist::Netlist;
 use bb_rules::{Plan, Register};
 use bb_segment::Start;
+use bb_word::{lines_at, misr_step, transpose};
 use std::alloc::{AllocError, Global};
 use std::marker::Model;
 
@@ -75,72 +74,53 @@ pub(crate) fn compactors_of(
     Ok(compactors)
 }
 
-/// The bit of a line.
-fn line_of(netlist: &Netlist, start: Start, values: &[bool]) -> bool
-    requires exists { StartExists netlist.now start }
-    requires values { length values.now ≡ length (driven netlist.now) }
-    ensures { result ≡ start_bit netlist.now.gates (bits_at values.now) start }
-{
-    match start {
-        Start::Net(net) => values[net.0 as usize],
-        Start::Gate(number) => bit_of(&netlist.gates()[number as usize], values),
-    }
-}
-
-/// The bits of some lines, the first one lowest.
-fn lines_of(netlist: &Netlist, starts: &[Start], values: &[bool]) -> u32
-    requires few { length starts.now ≤ 16 }
-    requires exist { All (StartExists netlist.now) starts.now }
-    requires values { length values.now ≡ length (driven netlist.now) }
-    ensures { result ≡ line_word netlist.now.gates (bits_at values.now) starts.now }
-{
-    let mut lines = 0;
-    for (place, start) in starts.iter().enumerate() {
-        if line_of(netlist, *start, values) {
-            lines |= 1u32 << place;
-        }
-    }
-    lines
-}
-
-/// What a register of so many cells holds after it took in its lines.
-fn next_signature(cells: u32, mask: u32, held: u32, lines: u32) -> u32
+/// What a register holds after it took in its lines at so many states, those of state t in lane t of its rows.
+fn take_in(cells: u32, mask: u32, rows: &mut [u64; 16], count: u32, held: u32) -> u32
     requires few { cells ≤ 16 }
+    requires lines { (t : ℕ) → t < 64 → from_bits (in_lane t rows.old) < 2 ^ cells }
+    requires count { count ≤ 64 }
     requires held { held < 2 ^ cells }
-    requires lines { lines < 2 ^ cells }
-    ensures value { result ≡ next_signature cells mask held lines }
+    ensures value { result ≡ taken_in cells mask (λ t. from_bits (in_lane t rows.old)) count held }
     ensures below { result < 2 ^ cells }
 {
-    let feedback = u32::from(code_bit(mask, held));
-    lines ^ ((2 * held + feedback) & ((1u32 << cells) - 1))
+    transpose(rows);
+    let mut state = held;
+    for lane in 0..count {
+        state = misr_step(cells, mask, state, lines_at(rows, lane));
+    }
+    state
 }
 
-/// The same by the bits of all nets.
-fn compact(netlist: &Netlist, compactor: &Compactor, values: &[bool], held: u32) -> u32
+/// The same by the words of all nets.
+fn compact(netlist: &Netlist, compactor: &Compactor, values: &[u64], count: u32, held: u32) -> u32
     requires few { HasFewLines netlist.now compactor.now }
     requires values { length values.now ≡ length (driven netlist.now) }
+    requires count { count ≤ 64 }
     requires held { held < 2 ^ length compactor.now.starts }
-    ensures value { result ≡ compacted netlist.now.gates (bits_at values.now) compactor.now held }
+    ensures value { result ≡ compacted netlist.now.gates values.now compactor.now count held }
     ensures below { result < 2 ^ length compactor.now.starts }
 {
-    let lines = lines_of(netlist, &compactor.starts, values);
-    next_signature(compactor.starts.len() as u32, compactor.mask, held, lines)
+    let mut rows = rows_of(netlist, &compactor.starts, values);
+    let cells = compactor.starts.len() as u32;
+    take_in(cells, compactor.mask, &mut rows, count, held)
 }
 
-/// Each register takes in its lines.
+/// Each register takes in its lines at so many states.
 pub(crate) fn compact_all(
     netlist: &Netlist,
     compactors: &[Compactor],
-    values: &[bool],
+    values: &[u64],
+    count: u32,
     held: &mut [u32],
 )
     requires few { All (HasFewLines netlist.now) compactors.now }
     requires values { length values.now ≡ length (driven netlist.now) }
+    requires count { count ≤ 64 }
     requires held { AreHeld compactors.now held.old }
-    ensures each { (r : ℕ) (k : CompactorValue) → slice_get compactors.now r ≡ Some k → slice_index held.new r ≡ compacted netlist.now.gates (bits_at values.now) k (slice_index held.old r) }
+    ensures each { (r : ℕ) (k : CompactorValue) → slice_get compactors.now r ≡ Some k → slice_index held.new r ≡ compacted netlist.now.gates values.now k count (slice_index held.old r) }
     ensures held { AreHeld compactors.now held.new }
 {
     'compactors: for (place, compactor) in compactors.iter().enumerate() {
-        held[place] = compact(netlist, compactor, values, held[place]);
+        held[place] = compact(netlist, compactor, values, count, held[place]);
     }
 }

@@ -4,18 +4,20 @@
 //!   bb_rules a plan has exactly one such list.
 //!
 //! A source has the same code bits in every session, so a register's signature doesn't depend on the session, and one pass over the
-//! 2^degree states of the complete register serves all sessions. At a state each net that is a source has the bit that its column picks,
-//! and every other net what its gate gives, in the gates' order. A net with a Cut cell has two bits: readers see the source's, and the
-//! cell takes that of the gate. All memory is taken before the first state; no contract says so.
+//! 2^degree states of the complete register serves all sessions. It takes 64 states at once: a net has a word, with a state in each lane.
+//! Each net that is a source has the bits that its column picks, and every other net what its gate gives, in the gates' order. A net with a
+//! Cut cell has two words: readers see the source's, and the cell takes that of the gate. Then each register takes in its lines, state by
+//! state. All memory is taken before the first state; no contract says so.
 //!
-//! `specs/Signatures.antt` of bb_rules says what signatures are, `specs/Bits.antt` what bits the nets have at a state, and
-//! `specs/Compactors.antt` what a register holds.
+//! `specs/Signatures.antt` of bb_rules says what signatures are, `specs/Bits.antt` what bits the nets have at a state,
+//! `specs/Evaluation.antt` how they are computed, and `specs/Compactors.antt` what a register holds.
 #![tactic(auto)]
 
 mod bits;
 mod columns;
 mod compactors;
-mod gate;
+mod evaluation;
+mod lines;
 mod sessions;
 mod starts;
 mod walk;

@@ -5,8 +5,8 @@ ghost use Rattle.bb_netlist.specs.Order.{IsOrder};
 ghost use Rattle.bb_rules.specs.Valid.{IsValidFor};
 ghost use Rattle.bb_rules.specs.Signatures.{AreSignatures};
 
-use crate::columns::columns_of;
 use crate::compactors::compactors_of;
+use crate::evaluation::evaluation_of;
 use crate::walk::walk;
 use bb_netlist::{Netlist, Order};
 use bb_rules::{Session, Valid};
@@ -29,6 +29,13 @@ fn none_held(alloc: Global, registers: usize) -> Result<Vec<u32>, AllocError>
     ensures zero { IfOk result (λ held. (r : ℕ) → slice_index held.items r ≡ 0) }
 {
     Ok(vec![in alloc; 0; registers]?)
+}
+
+/// So many words.
+fn no_words(alloc: Global, count: usize) -> Result<Vec<u64>, AllocError>
+    ensures { IfOk result (λ words. length words.items ≡ count) }
+{
+    Ok(vec![in alloc; 0; count]?)
 }
 
 /// Puts what registers hold in place of their numbers.
@@ -64,17 +71,18 @@ pub fn signatures(
     ensures signatures { IfOk result (λ lists. AreSignatures netlist.now valid.now.plan (map (λ list. list.items) lists.items)) }
 {
     let plan = valid.plan();
-    let mut values = vec![in alloc; false; netlist.nets() as usize]?;
-    let columns = columns_of(alloc, netlist, plan)?;
+    let evaluation = evaluation_of(alloc, netlist, order, plan)?;
+    let mut words = no_words(alloc, evaluation.nets.len())?;
+    let mut values = no_words(alloc, netlist.nets() as usize)?;
     let compactors = compactors_of(alloc, netlist, plan)?;
     let mut held = none_held(alloc, compactors.len())?;
     let mut lists = listed(alloc, &plan.sessions)?;
     walk(
         netlist,
-        order,
         plan,
-        &columns,
+        &evaluation,
         &compactors,
+        &mut words,
         &mut values,
         &mut held,
     );

@@ -1,6 +1,6 @@
 //! Where the lines of cells start.
 
-ghost use Rattle.std.specs.Prelude.{◌≡◌, ◌≤◌, ℕ, true, false, length, All, Some, IfOk};
+ghost use Rattle.std.specs.Prelude.{◌≡◌, ◌≤◌, ℕ, true, All, Some, IfOk};
 ghost use Rattle.std.specs.List.{AllZip};
 ghost use Rattle.bb_netlist.specs.Net.{IsNetlist};
 ghost use Rattle.bb_segment.specs.Paths.{Start as PlainStart};

@@ -14,8 +14,8 @@ note_registers-requires c =
     subst (λ n. All (λ (g : RegisterValue). All (λ d. d.net < n) g.cells) c.deref.result.now) long
     (subst (λ (gs : List RegisterValue). All (λ (g : RegisterValue). All (λ d. d.net < length (driven c.args.netlist.now)) g.cells) gs) (sym registers) (registers_within c.args.netlist.now c.args.plan.now c.nets.ensures.netlist c.requires))
 
-pub returns : goal.returns
-returns c =
+pub returns-clause-columns : goal.returns-clause-columns
+returns-clause-columns c =
     let whole = whole_written c.in_ok-columns.columns.len c.in_ok-columns.columns.items c.note_registers.new.columns (omega arith) (c.note_registers.auto.columns ∙ ap length c.deref_mut.ensures.value) in
     let registers = c.deref.ensures.value ∙ ap (λ (q : PlanValue). q.registers) c.plan.view_is in
     subst (AreReadColumns c.args.netlist.now c.args.plan.now) (sym whole)

@@ -1,0 +1,39 @@
+//! The lines of a register at 64 states.
+
+ghost use Rattle.std.specs.Prelude.{◌≡◌, ◌<◌, ◌≤◌, ℕ, length, All};
+ghost use Rattle.bb_netlist.specs.Net.{driven};
+ghost use Rattle.bb_gf2.specs.Bits.{from_bits};
+ghost use Rattle.bb_segment.specs.Support.{StartExists};
+ghost use Rattle.bb_eqn.specs.Values.{bits_at};
+ghost use Rattle.bb_word.specs.Lanes.{lane, in_lane};
+ghost use Rattle.bb_sign.specs.Compactors.{start_bit, line_word};
+
+use bb_netlist::Netlist;
+use bb_segment::Start;
+use bb_word::gate_word;
+
+/// The bits of a line, a lane a state.
+fn line_of(netlist: &Netlist, start: Start, values: &[u64]) -> u64
+    requires exists { StartExists netlist.now start }
+    requires values { length values.now ≡ length (driven netlist.now) }
+    ensures { (t : ℕ) → t < 64 → lane t result ≡ start_bit netlist.now.gates (bits_at (in_lane t values.now)) start }
+{
+    match start {
+        Start::Net(net) => values[net.0 as usize],
+        Start::Gate(number) => gate_word(&netlist.gates()[number as usize], values),
+    }
+}
+
+/// The bits of some lines, a row a line. The rows behind them are 0.
+pub(crate) fn rows_of(netlist: &Netlist, starts: &[Start], values: &[u64]) -> [u64; 16]
+    requires few { length starts.now ≤ 16 }
+    requires exist { All (StartExists netlist.now) starts.now }
+    requires values { length values.now ≡ length (driven netlist.now) }
+    ensures { (t : ℕ) → t < 64 → from_bits (in_lane t result) ≡ line_word netlist.now.gates (bits_at (in_lane t values.now)) starts.now }
+{
+    let mut rows = [0; 16];
+    for (place, start) in starts.iter().enumerate() {
+        rows[place] = line_of(netlist, *start, values);
+    }
+    rows
+}

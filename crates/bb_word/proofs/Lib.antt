@@ -1,0 +1,5 @@
+pub mod LaneLemmas
+pub mod StepLemmas
+pub mod SignatureLemmas
+pub mod SourceLemmas
+pub mod TransposeLemmas
