@@ -24,7 +24,7 @@ use Rattle.bb_say.specs.declared.stop.Stop.TheVariants.{Refused}
 use Rattle.bb_named.specs.Texts.{file_limit, output_limit, IsTextRefused}
 use Rattle.bb_check.specs.Passed.{Texts, IsInputOf, IsNetlistOf, IsScheduleOf, IsSignedBy, IsCertificateOf}
 use Rattle.bb_check.specs.Refused.{IsFormRefused}
-use Rattle.bb_check.specs.Told.{in_order, read_for, AreHeld, Tells, AreFilesOf, FilesPass, AreFilesRefused}
+use Rattle.bb_check.specs.Told.{in_order, read_for, HoldTexts, Tells, AreFilesOf, FilesPass, AreFilesRefused}
 
 -- what stops two calls alike is one refusal
 pub stop_same : {T : Type 0} (a b : Refusal) → ◌≡◌ {A = Result T Stop} (Err (Refused a)) (Err (Refused b)) → a ≡ b
@@ -147,8 +147,8 @@ files_are old mid end input prefix f same later input_is netlist schedule signat
 }
 
 -- names that hold all texts hold those that were read for a refusal
-pub held_for : (old : List ℕ → Told) (input prefix : List ℕ) (refusal : Refusal) (texts : Texts) → AreHeld old (input ∷ files_of prefix) (in_order texts)
-    → AreHeld old (input ∷ files_of prefix) (read_for refusal texts)
+pub held_for : (old : List ℕ → Told) (input prefix : List ℕ) (refusal : Refusal) (texts : Texts) → HoldTexts old (input ∷ files_of prefix) (in_order texts)
+    → HoldTexts old (input ∷ files_of prefix) (read_for refusal texts)
 held_for old input prefix (Input fault) texts held = (held.0, tt)
 held_for old input prefix (Plan fault) texts held = tt
 held_for old input prefix (Netlist fault) texts held = (held.0, (held.1.0, tt))

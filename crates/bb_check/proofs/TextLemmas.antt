@@ -22,7 +22,7 @@ use Rattle.bb_say.specs.declared.refusal.Refusal.TheVariants.{Input, Plan, Netli
 use Rattle.bb_named.specs.Texts.{file_limit, output_limit, IsTextRefused, ComesTo}
 use Rattle.bb_check.specs.Passed.{Texts, IsInputOf, IsNetlistOf, IsScheduleOf, IsSignedBy, IsCertificateOf, AreTextsOf, Pass}
 use Rattle.bb_check.specs.Refused.{IsFormRefused, IsOfForm, AreRefused}
-use Rattle.bb_check.specs.Told.{read_for, AreHeld, AreFilesOf}
+use Rattle.bb_check.specs.Told.{read_for, HoldTexts, AreFilesOf}
 
 -- what is known of texts, of the files' forms and of the rules
 pub record FormLaws : Type 0 where
@@ -115,7 +115,7 @@ module _ (laws : FormLaws) where
 
   -- files that are told to be those that meet every rule have no refusal
   pub told_none : (old : List ℕ → Told) (input prefix : List ℕ) (f : Audited) (texts : Texts) (refusal : Refusal) → AreFilesOf old input prefix f → AuditPasses f
-      → AreHeld old (input ∷ files_of prefix) (read_for refusal texts) → AreRefused refusal texts → ⊥
+      → HoldTexts old (input ∷ files_of prefix) (read_for refusal texts) → AreRefused refusal texts → ⊥
   told_none old input prefix f texts (Input fault) are meets held refused = no_input texts.input fault (f.original, are.input_is texts.input held.0) refused
   told_none old input prefix f texts (Plan fault) are meets held refused = refused
   told_none old input prefix f texts (Netlist fault) are meets held refused = no_netlist texts.netlist fault (f.written, are.netlist texts.netlist held.1.0) refused.1

@@ -23,10 +23,10 @@ read_for (Certificate fault) texts = in_order texts
 read_for (Check rule place) texts = in_order texts
 
 -- each text is told to be what its name holds, where the names stand in the same order
-abbrev pub AreHeld : (List ℕ → Told) → (names texts : List (List ℕ)) → Type 0
-AreHeld old names [] = Unit {0}
-AreHeld old [] (text ∷ texts) = ⊥
-AreHeld old (name ∷ names) (text ∷ texts) = (old name ≡ Held text) × AreHeld old names texts
+abbrev pub HoldTexts : (List ℕ → Told) → (names texts : List (List ℕ)) → Type 0
+HoldTexts old names [] = Unit {0}
+HoldTexts old [] (text ∷ texts) = ⊥
+HoldTexts old (name ∷ names) (text ∷ texts) = (old name ≡ Held text) × HoldTexts old names texts
 
 -- what the name is told to hold is this
 abbrev pub Tells : (List ℕ → Told) → List ℕ → (List ℕ → Type 0) → Type 0
@@ -42,8 +42,8 @@ pub record AreFilesOf (old : List ℕ → Told) (input prefix : List ℕ) (f : A
 
 -- the files of the prefix pass beside the input, where all of them are told
 abbrev pub FilesPass : (input prefix : List ℕ) → (List ℕ → Told) → Type 0
-FilesPass input prefix old = (texts : Texts) → AreHeld old (input ∷ files_of prefix) (in_order texts) → Pass texts
+FilesPass input prefix old = (texts : Texts) → HoldTexts old (input ∷ files_of prefix) (in_order texts) → Pass texts
 
 -- they have this refusal, where those are told that were read for it
 abbrev pub AreFilesRefused : (input prefix : List ℕ) → Refusal → (List ℕ → Told) → Type 0
-AreFilesRefused input prefix refusal old = (texts : Texts) → AreHeld old (input ∷ files_of prefix) (read_for refusal texts) → AreRefused refusal texts
+AreFilesRefused input prefix refusal old = (texts : Texts) → HoldTexts old (input ∷ files_of prefix) (read_for refusal texts) → AreRefused refusal texts

@@ -14,7 +14,7 @@ ghost use Rattle.bb_audit.specs.Faults.{IsAuditFault};
 ghost use Rattle.bb_say.specs.declared.refusal.Refusal.{Refusal as RefusalValue};
 ghost use Rattle.bb_check.specs.Passed.{Texts, Pass, IsInputOf, IsNetlistOf};
 ghost use Rattle.bb_check.specs.Refused.{AreRefused};
-ghost use Rattle.bb_check.specs.Told.{in_order, read_for, AreHeld, Tells, AreFilesOf, FilesPass, AreFilesRefused};
+ghost use Rattle.bb_check.specs.Told.{in_order, read_for, HoldTexts, Tells, AreFilesOf, FilesPass, AreFilesRefused};
 
 use crate::form::{certificate_in, plan_in, signatures_in};
 use crate::laws::{passed_or_refused, told_or_refused};
@@ -111,10 +111,10 @@ pub fn check<S: Store>(alloc: Global, store: &mut S, input: &str, prefix: &str) 
     ensures passes { OnOk result (FilesPass input.now prefix.now (S.holds store.old)) }
     ensures refused { (refusal : RefusalValue) → IsErrOf result (Stop.Refused refusal) → AreFilesRefused input.now prefix.now refusal (S.holds store.old) }
     // Files that have a refusal never pass.
-    ensures always_refused { (texts : Texts) (refusal : RefusalValue) → AreHeld (S.holds store.old) (input.now ∷ files_of prefix.now) (read_for refusal texts) → AreRefused refusal texts
+    ensures always_refused { (texts : Texts) (refusal : RefusalValue) → HoldTexts (S.holds store.old) (input.now ∷ files_of prefix.now) (read_for refusal texts) → AreRefused refusal texts
         → OnOk result ⊥ }
     // Files that pass are never refused.
-    ensures complete { (texts : Texts) (refusal : RefusalValue) → AreHeld (S.holds store.old) (input.now ∷ files_of prefix.now) (in_order texts) → Pass texts
+    ensures complete { (texts : Texts) (refusal : RefusalValue) → HoldTexts (S.holds store.old) (input.now ∷ files_of prefix.now) (in_order texts) → Pass texts
         → IsErrOf result (Stop.Refused refusal) → ⊥ }
     ensures read { IsErrOf result Stop.Read → Rose (S.read_faults store.old) (S.read_faults store.new) }
     ensures later { S.read_faults store.old ≤ S.read_faults store.new }

@@ -1,34 +1,19 @@
 //! Laws about texts, as contracts of functions that do nothing.
 
-ghost use Rattle.std.specs.Prelude.{◌≡◌, ℕ, Bool, List, ◌∷◌, Ok};
+ghost use Rattle.std.specs.Prelude.{◌≡◌, ℕ, List, ◌∷◌};
 ghost use Rattle.bb_edge.specs.Told.{Told};
 ghost use Rattle.bb_words.specs.Commands.{files_of};
-ghost use Rattle.bb_net.specs.Named.{Named, IsNamed};
-ghost use Rattle.bb_elab.specs.Denotes.{ElaboratesTo};
 ghost use Rattle.bb_audit.specs.Audited.{Audited};
 ghost use Rattle.bb_audit.specs.Passing.{AuditPasses};
 ghost use Rattle.bb_say.specs.declared.refusal.Refusal.{Refusal as RefusalValue};
 ghost use Rattle.bb_check.specs.Passed.{Texts, AreTextsOf, Pass};
 ghost use Rattle.bb_check.specs.Refused.{AreRefused};
-ghost use Rattle.bb_check.specs.Told.{read_for, AreHeld, AreFilesOf};
+ghost use Rattle.bb_check.specs.Told.{read_for, HoldTexts, AreFilesOf};
 
 use bb_audit::{one_audit, passing_is_good};
-use bb_elab::denotes_a_netlist;
 use bb_forms::{one_certificate, one_list, one_plan};
-use bb_grammar::in_range as modules_in_range;
-use bb_lex::{in_range as tokens_in_range, one_reading};
-use bb_named::one_end_of;
+use bb_named::{one_end_of, read_netlists_are_named};
 use bb_ready::read_netlists_are_ready;
-
-/// What a text denotes is a named netlist.
-fn read_netlists_are_named()
-    ensures { (own : Bool) (text : List ℕ) (a : Named) → ElaboratesTo own text (Ok a) → IsNamed a }
-{
-    one_reading();
-    tokens_in_range();
-    modules_in_range();
-    denotes_a_netlist();
-}
 
 /// Texts of files that meet every rule pass, whoever wrote them.
 pub fn audit_is_enough()
@@ -66,7 +51,7 @@ pub fn one_refusal()
 /// Files that are told to be those of a self-test that meets every rule have no refusal, also where not all of them are told.
 pub(crate) fn told_or_refused()
     ensures { (old : List ℕ → Told) (input prefix : List ℕ) (f : Audited) (texts : Texts) (refusal : RefusalValue) → AreFilesOf old input prefix f → AuditPasses f
-        → AreHeld old (input ∷ files_of prefix) (read_for refusal texts) → AreRefused refusal texts → ⊥ }
+        → HoldTexts old (input ∷ files_of prefix) (read_for refusal texts) → AreRefused refusal texts → ⊥ }
 {
     read_netlists_are_named();
     one_end_of();

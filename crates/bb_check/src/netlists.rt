@@ -11,13 +11,10 @@ ghost use Rattle.bb_check.specs.Passed.{IsInputOf, IsNetlistOf};
 ghost use Rattle.bb_check.specs.Told.{Tells};
 
 use bb_edge::Store;
-use bb_named::{NamedFault, read_named};
+use bb_named::{FILE_LIMIT, NamedFault, read_named};
 use bb_net::{Named, Order};
 use bb_say::{Refusal, Stop};
 use std::alloc::Global;
-
-/// The most bytes of the input.
-const FILE_LIMIT: u64 = 67_108_864;
 
 /// The most bytes of each other file.
 pub(crate) const OUTPUT_LIMIT: u64 = 1_099_511_627_776;

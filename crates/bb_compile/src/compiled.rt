@@ -1,6 +1,6 @@
 //! What `compile` writes and says.
 
-ghost use Rattle.std.specs.Prelude.{◌≡◌, ◌≤◌, ℕ, List, IfOk, IsErrOf};
+ghost use Rattle.std.specs.Prelude.{◌≡◌, ◌≤◌, IfOk, IsErrOf};
 ghost use Rattle.bb_edge.specs.Causes.{Rose};
 ghost use Rattle.bb_choose.specs.Arranged.{AreInRange};
 ghost use Rattle.bb_say.specs.declared.refusal.Refusal.{Refusal as RefusalValue};
@@ -11,12 +11,9 @@ use crate::plan::made_of;
 use crate::prepared::{Prepared, prepared_behind};
 use bb_edge::Store;
 use bb_make::{Artifacts, Settings};
-use bb_named::{NamedFault, read_named};
+use bb_named::{FILE_LIMIT, NamedFault, read_named};
 use bb_say::{Refusal, Stop};
 use std::alloc::Global;
-
-/// The most bytes of the input.
-const FILE_LIMIT: u64 = 67_108_864;
 
 /// Why a call whose input gives no netlist stops.
 fn stop_of(fault: NamedFault) -> Stop

@@ -1,14 +1,13 @@
 //! What `sample` writes and says.
 
-ghost use Rattle.std.specs.Prelude.{◌≡◌, ◌≤◌, ◌++◌, ◌∷◌, [], ℕ, List, codes, IfOk, IsErrOf};
+ghost use Rattle.std.specs.Prelude.{◌≡◌, ◌≤◌, ◌++◌, ◌∷◌, [], codes, IfOk, IsErrOf};
 ghost use Rattle.bb_netlist.specs.Order.{HasOrder, IsOrder};
 ghost use Rattle.bb_net.specs.Named.{design_of};
 ghost use Rattle.bb_spell.specs.Canonical.{canonical_text};
 ghost use Rattle.bb_sample.specs.Sample.{sample_of};
 ghost use Rattle.bb_choose.specs.Arranged.{AreInRange};
-ghost use Rattle.bb_make.specs.Artifacts.{AreArtifacts};
 ghost use Rattle.bb_say.specs.declared.refusal.Refusal.{Refusal as RefusalValue};
-ghost use Rattle.bb_compile.specs.Made.{IsMadeSample, sample_text};
+ghost use Rattle.bb_compile.specs.Made.{IsMadeSample};
 ghost use Rattle.bb_compile.specs.Causes.{IsSampleRefused};
 ghost use Rattle.bb_compile.specs.Prepared.{IsPreparedSample};
 
@@ -19,7 +18,7 @@ use bb_make::{Artifacts, Settings};
 use bb_net::{Named, Order, OrderFault, find_order};
 use bb_print::print;
 use bb_read::File;
-use bb_sample::{sample, samples_are_netlists};
+use bb_sample::sample;
 use bb_say::Stop;
 use std::alloc::{AllocError, Global};
 

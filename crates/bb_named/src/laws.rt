@@ -1,13 +1,13 @@
 //! Laws about texts, as contracts of functions that do nothing.
 
-ghost use Rattle.std.specs.Prelude.{◌≡◌, ℕ, Bool, List, Result};
-ghost use Rattle.bb_net.specs.Named.{Named};
+ghost use Rattle.std.specs.Prelude.{◌≡◌, ℕ, Bool, List, Result, Ok};
+ghost use Rattle.bb_net.specs.Named.{Named, IsNamed};
 ghost use Rattle.bb_fault.specs.declared.fault.ElabFault.{ElabFault as ElabValue};
 ghost use Rattle.bb_elab.specs.Denotes.{ElaboratesTo};
 ghost use Rattle.bb_say.specs.declared.refusal.TextRefusal.{TextRefusal as TextRefusalValue};
 ghost use Rattle.bb_named.specs.Texts.{ComesTo};
 
-use bb_elab::{has_an_outcome, one_outcome};
+use bb_elab::{denotes_a_netlist, has_an_outcome, one_outcome};
 use bb_grammar::{in_range as modules_in_range, one_flaw, one_module};
 use bb_lex::{in_range as tokens_in_range, one_reading};
 
@@ -31,4 +31,14 @@ pub fn one_end_of()
     one_flaw();
     has_an_outcome();
     one_outcome_of();
+}
+
+/// What a text denotes is a named netlist.
+pub fn read_netlists_are_named()
+    ensures { (own : Bool) (text : List ℕ) (a : Named) → ElaboratesTo own text (Ok a) → IsNamed a }
+{
+    one_reading();
+    tokens_in_range();
+    modules_in_range();
+    denotes_a_netlist();
 }

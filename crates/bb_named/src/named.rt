@@ -23,6 +23,9 @@ use bb_read::{ReadFault, module_in, read_whole};
 use bb_ready::read_netlists_are_ready;
 use std::alloc::Global;
 
+/// The most bytes of the input.
+pub const FILE_LIMIT: u64 = 67_108_864;
+
 /// The named netlist that a text denotes, and the order of its gates, or the text's first fault.
 fn named_in(alloc: Global, text: &[u8], own: bool) -> Result<(Named, Order), ReadFault>
     ensures named { IfOk result (λ found. ElaboratesTo own text.now (Ok found.0)) }

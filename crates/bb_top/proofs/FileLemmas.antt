@@ -1,9 +1,7 @@
 -- The files that a command writes: their names differ, and each of them may be written where the command's names may.
 use Rattle.std.proofs.Common.{◌≡◌, ◌≢◌, ℕ, List, ◌++◌, codes, slice_index_or, nat_eq, false, refl, ap, arith}
-use Rattle.std.specs.List.{AllByRecursion}
 use Rattle.std.proofs.lemmas.List.{append_cancel_left}
 use Rattle.std.proofs.lemmas.Bool.Decides.{nat_tests}
-use Rattle.bb_edge.specs.Files.{FileValue}
 use Rattle.bb_read.specs.Files.{AreApart, names_of}
 use Rattle.bb_words.specs.Commands.{CommandValue, Compile, Check, Sample, names_written}
 use Rattle.bb_make.specs.Artifacts.{ArtifactsValue}
@@ -45,12 +43,6 @@ files_apart (Sample number prefix settings) made = (
   ),
   outputs_apart prefix made,
 )
-
-pub files_may : (may : List ℕ → Type 0) (command : CommandValue) (made : ArtifactsValue) → AllByRecursion may (names_written command)
-    → AllByRecursion (λ (f : FileValue). may f.0) (files_for command made)
-files_may may (Compile input prefix settings) made h = h
-files_may may (Check input prefix) made h = tt
-files_may may (Sample number prefix settings) made h = h
 
 -- their names are those that the command writes
 pub files_named : (command : CommandValue) (made : ArtifactsValue) → names_of (files_for command made) ≡ names_written command

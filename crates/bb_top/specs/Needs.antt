@@ -12,10 +12,10 @@ use Rattle.bb_named.specs.Texts.{file_limit, IsReadable}
 use Rattle.bb_compile.specs.Causes.{IsRefused, IsSampleRefused}
 use Rattle.bb_check.specs.Passed.{Texts, Pass}
 use Rattle.bb_check.specs.Refused.{AreRefused}
-use Rattle.bb_check.specs.Told.{AreHeld, in_order, read_for}
+use Rattle.bb_check.specs.Told.{HoldTexts, in_order, read_for}
 
--- there is room for a plan of the netlist
-pub record HasRoom (settings : Settings) (a : Named) : Type 0 where
+-- a plan of the netlist can be chosen: its gates have an order, and there is room
+pub record IsPlannable (settings : Settings) (a : Named) : Type 0 where
   pub order : List ℕ
   pub ordered : IsOrder a.netlist.gates order
   pub enough : IsEnough a.netlist order settings
@@ -25,16 +25,16 @@ pub record IsCompilable (settings : Settings) (text : List ℕ) : Type 0 where
   pub short : length text ≤ file_limit
   pub original : Named
   pub readable : IsReadable original text
-  pub room : HasRoom settings original
+  pub room : IsPlannable settings original
 
 -- what the command needs is told: a text with room for a plan, texts that pass, or room for a plan of the sample
 abbrev pub HasNeeds : CommandValue → (List ℕ → Told) → Type 0
 HasNeeds (Compile input prefix settings) old = (text : List ℕ) × (old input ≡ Held text) × IsCompilable settings text
-HasNeeds (Check input prefix) old = (texts : Texts) × AreHeld old (names_read (Check input prefix)) (in_order texts) × Pass texts
-HasNeeds (Sample number prefix settings) old = HasRoom settings (sample_of number)
+HasNeeds (Check input prefix) old = (texts : Texts) × HoldTexts old (names_read (Check input prefix)) (in_order texts) × Pass texts
+HasNeeds (Sample number prefix settings) old = IsPlannable settings (sample_of number)
 
 -- what is told has this refusal: of the files of `check` those are told that are read for it
 abbrev pub HasRefusal : CommandValue → Refusal → (List ℕ → Told) → Type 0
 HasRefusal (Compile input prefix settings) refusal old = (text : List ℕ) × (old input ≡ Held text) × IsRefused settings refusal text
-HasRefusal (Check input prefix) refusal old = (texts : Texts) × AreHeld old (names_read (Check input prefix)) (read_for refusal texts) × AreRefused refusal texts
+HasRefusal (Check input prefix) refusal old = (texts : Texts) × HoldTexts old (names_read (Check input prefix)) (read_for refusal texts) × AreRefused refusal texts
 HasRefusal (Sample number prefix settings) refusal old = IsSampleRefused settings number refusal

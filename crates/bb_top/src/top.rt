@@ -1,6 +1,6 @@
 ghost use Rattle.std.specs.Prelude.{◌≡◌, ◌≢◌, ◌⊎◌, ◌≤◌, map, ℕ, List, None, Contains, string_bytes};
 ghost use Rattle.bb_edge.specs.Causes.{Rose};
-ghost use Rattle.bb_edge.specs.Told.{AppendsAll, AppendsFront};
+ghost use Rattle.bb_edge.specs.Told.{AppendsAll};
 ghost use Rattle.bb_words.specs.Commands.{CommandValue, names_read, names_written, HasSameName};
 ghost use Rattle.bb_words.specs.Calls.{Means};
 ghost use Rattle.bb_say.specs.declared.refusal.Refusal.{Refusal as RefusalValue};

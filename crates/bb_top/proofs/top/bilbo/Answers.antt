@@ -1,4 +1,4 @@
-use Rattle.std.proofs.Common.{◌≡◌, ap, sym, subst, refl, inl, inr, Err, map, string_bytes}
+use Rattle.std.proofs.Common.{◌≡◌, ap, subst, refl, inl, inr, Err, map, string_bytes}
 use Rattle.bb_base.proofs.Contained.{to_all}
 use Rattle.bb_words.specs.Commands.{CommandValue, command_value, names_read, names_written, HasSameName}
 use Rattle.bb_top.specs.Ends.{Usage, SameName}

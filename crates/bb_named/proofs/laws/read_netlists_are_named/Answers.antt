@@ -3,7 +3,7 @@ use Rattle.std.specs.List.{AllByRecursion}
 use Rattle.bb_lex.specs.Machine.{run, start}
 use Rattle.bb_lex.specs.Ranges.{IsProper}
 use Rattle.bb_net.specs.Named.{IsNamed}
-use Rattle.bb_check.proofs.laws.read_netlists_are_named.Goals as goal
+use Rattle.bb_named.proofs.laws.read_netlists_are_named.Goals as goal
 
 pub returns : goal.returns
 returns c = λ own text a is.
