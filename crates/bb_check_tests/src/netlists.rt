@@ -33,29 +33,29 @@ fn a_netlist_is_judged_by_what_it_denotes(rt: HostRuntime) -> Result<(), Fail> {
 #[test]
 fn another_netlist_is_refused_by_its_first_net_that_differs(rt: HostRuntime) -> Result<(), Fail> {
     let rows = [
-        ("module half", "module whole", "refused check: rule 17 at 0"),
-        ("(a, b,", "(b, a,", "refused check: rule 17 at 0"),
-        ("input a;", "input [0:0] a;", "refused check: rule 17 at 0"),
-        ("xor (s,", "xnor (s,", "refused check: rule 17 at 3"),
+        ("module half", "module whole", "check: rule 17 at 0"),
+        ("(a, b,", "(b, a,", "check: rule 17 at 0"),
+        ("input a;", "input [0:0] a;", "check: rule 17 at 0"),
+        ("xor (s,", "xnor (s,", "check: rule 17 at 3"),
         (
             "and (c, bt_r0, bt_r1)",
             "and (c, bt_r1, bt_r0)",
-            "refused check: rule 17 at 4",
+            "check: rule 17 at 4",
         ),
         (
             "(bt_xd0, bt_go, bt_f)",
             "(bt_xd0, bt_f, bt_go)",
-            "refused check: rule 17 at 16",
+            "check: rule 17 at 16",
         ),
         (
             "endmodule",
             "wire more;\nbuf (more, a);\nendmodule",
-            "refused check: rule 17 at 76",
+            "check: rule 17 at 76",
         ),
     ];
-    for (old, new, line) in rows {
+    for (old, new, words) in rows {
         let end = checked_with(rt.alloc(), "o.v", old, new)?;
-        assert!(rt; end.says(1, line), "{new:?}");
+        assert!(rt; end.refuses(words), "{new:?}");
     }
     Ok(())
 }
@@ -64,75 +64,75 @@ fn another_netlist_is_refused_by_its_first_net_that_differs(rt: HostRuntime) -> 
 fn a_text_that_denotes_no_netlist_is_refused(rt: HostRuntime) -> Result<(), Fail> {
     let rows = [
         (
-            "half.v",
+            "i.v",
             "input a;\n",
             "inputs a;\n",
-            "refused input: line 2 unreadable",
+            "input: line 2 unreadable",
         ),
         (
-            "half.v",
+            "i.v",
             "xor (s, a, b);",
             "xor (s, a, bt_b);",
-            "refused input: reserved bt_b",
+            "input: reserved bt_b",
         ),
         (
-            "half.v",
+            "i.v",
             "xor (s, a, b);",
             "xor (s, a, b), (s, a, b);",
-            "refused input: two drivers s",
+            "input: two drivers s",
         ),
         (
-            "half.v",
+            "i.v",
             "xor (s, a, b);",
             "xnor (s, a, b);",
-            "refused check: rule 17 at 3",
+            "check: rule 17 at 3",
         ),
         (
             "o.v",
             "input a;\n",
             "input # a;\n",
-            "refused netlist: line 2 bad byte",
+            "netlist: line 2 bad byte",
         ),
         (
             "o.v",
             "input a;\n",
             "input a;\ninput a;\n",
-            "refused netlist: redeclared a",
+            "netlist: redeclared a",
         ),
         (
             "o.v",
             "not (bt_ni, bt_init);",
             "not (bt_ni, bt_init), (bt_ni, a);",
-            "refused netlist: two drivers bt_ni",
+            "netlist: two drivers bt_ni",
         ),
         (
             "o.v",
             "and (bt_done, bt_go, bt_ring1);\n",
             "",
-            "refused netlist: undriven bt_done",
+            "netlist: undriven bt_done",
         ),
         (
             "o.v",
             "not (bt_ni, bt_init);",
             "not (bt_ni, bt_ni);",
-            "refused netlist: loop through bt_ni, 1 nets",
+            "netlist: loop through bt_ni, 1 nets",
         ),
         (
             "o.v",
             "dff bt_f0 (bt_clk,",
             "dff bt_f0 (a,",
-            "refused netlist: two clocks a and bt_clk",
+            "netlist: two clocks a and bt_clk",
         ),
         (
             "o.v",
             "wire bt_ni;",
             "wire [134217727:0] w;\nwire bt_ni;",
-            "refused netlist: too many bits 134217804 over 134217728",
+            "netlist: too many bits 134217804 over 134217728",
         ),
     ];
-    for (name, old, new, line) in rows {
+    for (name, old, new, words) in rows {
         let end = checked_with(rt.alloc(), name, old, new)?;
-        assert!(rt; end.says(1, line), "{name} {new:?}");
+        assert!(rt; end.refuses(words), "{name} {new:?}");
     }
     Ok(())
 }

@@ -1,15 +1,17 @@
 //! Files that pass, whoever made them.
 
-use crate::call::{HALF, checked, compiled, copy_of, half, hold_the_same, replace, text_in};
+use crate::call::{checked, compiled};
+use bb_cases::{READ, half, holds, replace, text_in};
 use std::alloc::{AllocError, Global};
 use std::test::Fail;
 
+/// With its five files as they were before.
 #[test]
 fn files_that_were_written_pass(rt: HostRuntime) -> Result<(), Fail> {
-    let before = half(rt.alloc())?;
-    let mut store = copy_of(rt.alloc(), &before, Vec::new(rt.alloc()))?;
+    let mut store = compiled(rt.alloc(), half::TEXT, "--width 2")?;
+    assert!(rt; holds(&store, &READ, &half::TEXTS));
     let end = checked(rt.alloc(), &mut store)?;
-    assert!(rt; end.says(0, "pass") && hold_the_same(&before, &store));
+    assert!(rt; end.says(0, "pass") && holds(&store, &READ, &half::TEXTS));
     Ok(())
 }
 
@@ -42,7 +44,7 @@ fn turned(alloc: Global, text: &str) -> Result<String, AllocError> {
 
 #[test]
 fn other_duals_and_another_order_of_statements_pass(rt: HostRuntime) -> Result<(), Fail> {
-    let mut store = compiled(rt.alloc(), HALF, "--width 2 --min-degree 3")?;
+    let mut store = compiled(rt.alloc(), half::TEXT, "--width 2 --min-degree 3")?;
     replace(
         rt.alloc(),
         &mut store,

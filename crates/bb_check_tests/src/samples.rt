@@ -1,6 +1,7 @@
 //! Samples: what is written for a number, and that it passes.
 
-use crate::call::{CallEnd, ended, text_in};
+use crate::call::ended;
+use bb_cases::{CallEnd, text_in};
 use bb_edge::MemStore;
 use std::alloc::{AllocError, Global};
 use std::test::Fail;
@@ -13,9 +14,16 @@ const FIRST: &str = "module sample (i, o);\ninput [0:15] i;\noutput [0:0] o;\nwi
 fn sampled(alloc: Global, words: &str) -> Result<(CallEnd, CallEnd, MemStore), AllocError> {
     let words = format!(in alloc; "sample {words}")?;
     let mut store = MemStore::new(alloc, Vec::new(alloc));
-    let made = ended(alloc, words.as_str(), &mut store, None)?;
-    let checked = ended(alloc, "check p.in.v p", &mut store, None)?;
+    let made = ended(alloc, words.as_str(), &mut store)?;
+    let checked = ended(alloc, "check p.in.v p", &mut store)?;
     Ok((made, checked, store))
+}
+
+/// How `sample` ends for these words behind the first, in an empty store.
+fn drawn(alloc: Global, words: &str) -> Result<CallEnd, AllocError> {
+    let words = format!(in alloc; "sample {words}")?;
+    let mut store = MemStore::new(alloc, Vec::new(alloc));
+    ended(alloc, words.as_str(), &mut store)
 }
 
 #[test]
@@ -82,30 +90,14 @@ fn a_sample_of_two_thousand_gates_passes(rt: HostRuntime) -> Result<(), Fail> {
     Ok(())
 }
 
+/// Each of its sessions runs 2^18 cycles, so this also shows that they are not simulated one at a time.
 #[test]
-fn words_that_mean_no_command_get_the_usage_line(rt: HostRuntime) -> Result<(), Fail> {
-    let usage =
-        "usage: bilbo compile IN PREFIX [options] | check IN PREFIX | sample N PREFIX [options]";
-    let rows = [
-        "check half.v",
-        "check half.v o p",
-        "check half.v o --width 2",
-        "check half.v -o",
-        "sample p",
-        "sample 0 p",
-        "sample 01 p",
-        "sample 65537 p",
-        "sample 1 p q",
-        "sample 1 p --width 1",
-        "sample 1 p --register=2 --register=2",
-        "samples 1 p",
-        "migrate half.v o p",
-    ];
-    for words in rows {
-        let mut store = MemStore::new(rt.alloc(), Vec::new(rt.alloc()));
-        let end = ended(rt.alloc(), words, &mut store, None)?;
-        assert!(rt; end.says(2, usage), "{words}");
-    }
+fn a_sample_of_twenty_thousand_gates_runs_long_sessions(rt: HostRuntime) -> Result<(), Fail> {
+    let words = "20000 p --width 6 --min-degree 18 --max-degree 20 --max-cycles 1099511627776";
+    let first = drawn(rt.alloc(), words)?;
+    assert_eq!(rt; first.status, 0);
+    let second = drawn(rt.alloc(), words)?;
+    assert!(rt; second.status == 0 && second.line.as_slice() == first.line.as_slice());
     Ok(())
 }
 
@@ -113,8 +105,8 @@ fn words_that_mean_no_command_get_the_usage_line(rt: HostRuntime) -> Result<(), 
 fn a_sample_without_room_for_a_plan_is_refused(rt: HostRuntime) -> Result<(), Fail> {
     let mut store = MemStore::new(rt.alloc(), Vec::new(rt.alloc()));
     store.set("p.in.v", b"old")?;
-    let end = ended(rt.alloc(), "sample 3 p --max-degree 3", &mut store, None)?;
-    assert!(rt; end.says(1, "refused plan: degree limit 3 for 19 cells"));
+    let end = ended(rt.alloc(), "sample 3 p --max-degree 3", &mut store)?;
+    assert!(rt; end.refuses("plan: degree limit 3 for 19 cells"));
     assert!(rt; text_in(&store, "p.in.v") == "old" && store.get("p.v") == None);
     Ok(())
 }

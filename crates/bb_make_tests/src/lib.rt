@@ -9,5 +9,3 @@ mod made;
 mod premises;
 #[cfg(test)]
 mod rows;
-#[cfg(test)]
-mod texts;

@@ -1,10 +1,11 @@
 // The worked rows of the job.
 
 use crate::made::{certifies, counts, of_width, refuses, schedule_ends, schedules, signs, writes};
-use crate::texts::{
-    BENCHMARK, HALF, HALF_AT_THREE, HALF_BY_ONES, HALF_CERTIFICATE, HALF_SCHEDULE, HALF_TESTED,
-    NINE, NINE_TIMES, NONE, ONE, PARITY, SWAP, TOGGLE, WIRE,
+use bb_cases::canonical::{
+    BENCHMARK, CONSTANT, NINE_INPUTS, NO_GATE, ONE_INPUT_NINE_TIMES, PARITY_TREE, SWAP, TOGGLE,
+    WIRE,
 };
+use bb_cases::half;
 use bb_code::Need;
 use bb_make::{MakeFault, Settings, Summary};
 
@@ -12,23 +13,16 @@ use bb_make::{MakeFault, Settings, Summary};
 fn a_half_adder_has_its_four_texts(rt: HostRuntime) {
     let alloc = rt.alloc();
     let settings = of_width(2);
-    assert!(rt; writes(alloc, HALF, &settings, HALF_TESTED));
-    assert!(rt; schedules(alloc, HALF, &settings, HALF_SCHEDULE));
-    assert!(rt;
-        signs(
-            alloc,
-            HALF,
-            &settings,
-            "bilbo-signatures 1\nsession 0\nregister 1 00000002\nend\n"
-        )
-    );
-    assert!(rt; certifies(alloc, HALF, &settings, HALF_CERTIFICATE));
+    assert!(rt; writes(alloc, half::TEXT, &settings, half::NETLIST));
+    assert!(rt; schedules(alloc, half::TEXT, &settings, half::SCHEDULE));
+    assert!(rt; signs(alloc, half::TEXT, &settings, half::SIGNATURES));
+    assert!(rt; certifies(alloc, half::TEXT, &settings, half::CERTIFICATE));
 }
 
 #[test]
 fn the_original_and_the_plan_are_counted(rt: HostRuntime) {
     let alloc = rt.alloc();
-    let half = Summary {
+    let adder = Summary {
         gates: 2,
         flops: 0,
         cells: 4,
@@ -37,7 +31,7 @@ fn the_original_and_the_plan_are_counted(rt: HostRuntime) {
         degree: 2,
         cycles: 9,
     };
-    assert!(rt; counts(alloc, HALF, &of_width(2), half));
+    assert!(rt; counts(alloc, half::TEXT, &of_width(2), adder));
     let none = Summary {
         gates: 0,
         flops: 0,
@@ -47,7 +41,7 @@ fn the_original_and_the_plan_are_counted(rt: HostRuntime) {
         degree: 1,
         cycles: 1,
     };
-    assert!(rt; counts(alloc, NONE, &of_width(8), none));
+    assert!(rt; counts(alloc, NO_GATE, &of_width(8), none));
     let benchmark = Summary {
         gates: 10,
         flops: 3,
@@ -62,7 +56,14 @@ fn the_original_and_the_plan_are_counted(rt: HostRuntime) {
 
 #[test]
 fn without_a_session_no_signature_is_listed(rt: HostRuntime) {
-    assert!(rt; signs(rt.alloc(), NONE, &of_width(8), "bilbo-signatures 1\nend\n"));
+    assert!(rt;
+        signs(
+            rt.alloc(),
+            NO_GATE,
+            &of_width(8),
+            "bilbo-signatures 1\nend\n"
+        )
+    );
 }
 
 #[test]
@@ -79,7 +80,7 @@ fn the_line_of_a_wire_is_its_input(rt: HostRuntime) {
     assert!(rt;
         signs(
             alloc,
-            NINE_TIMES,
+            ONE_INPUT_NINE_TIMES,
             &of_width(8),
             "bilbo-signatures 1\nsession 0\nregister 1 00000001\nend\n"
         )
@@ -92,7 +93,7 @@ fn a_constant_has_a_segment_without_sources(rt: HostRuntime) {
     assert!(rt;
         signs(
             alloc,
-            ONE,
+            CONSTANT,
             &of_width(8),
             "bilbo-signatures 1\nsession 0\nregister 0 00000000\nend\n"
         )
@@ -100,7 +101,7 @@ fn a_constant_has_a_segment_without_sources(rt: HostRuntime) {
     assert!(rt;
         certifies(
             alloc,
-            ONE,
+            CONSTANT,
             &of_width(8),
             "bilbo-certificate 1\nperiod 2\nsegment 0\nend\n"
         )
@@ -143,11 +144,11 @@ fn a_parity_tree_is_cut_and_has_two_sessions(rt: HostRuntime) {
         degree: 6,
         cycles: 257,
     };
-    assert!(rt; counts(alloc, PARITY, &of_width(4), parity));
+    assert!(rt; counts(alloc, PARITY_TREE, &of_width(4), parity));
     assert!(rt;
         schedule_ends(
             alloc,
-            PARITY,
+            PARITY_TREE,
             &of_width(4),
             "session 4 6\nsession 5\ncycles 257\nend\n"
         )
@@ -160,15 +161,8 @@ fn a_higher_degree_gives_another_signature(rt: HostRuntime) {
         min_degree: 3,
         ..of_width(2)
     };
-    assert!(rt; schedules(rt.alloc(), HALF, &settings, HALF_AT_THREE));
-    assert!(rt;
-        signs(
-            rt.alloc(),
-            HALF,
-            &settings,
-            "bilbo-signatures 1\nsession 0\nregister 1 00000003\nend\n"
-        )
-    );
+    assert!(rt; schedules(rt.alloc(), half::TEXT, &settings, half::AT_DEGREE_THREE[0]));
+    assert!(rt; signs(rt.alloc(), half::TEXT, &settings, half::AT_DEGREE_THREE[1]));
 }
 
 #[test]
@@ -177,15 +171,8 @@ fn registers_of_one_cell_are_signed_one_by_one(rt: HostRuntime) {
         register: 1,
         ..of_width(2)
     };
-    assert!(rt; schedules(rt.alloc(), HALF, &settings, HALF_BY_ONES));
-    assert!(rt;
-        signs(
-            rt.alloc(),
-            HALF,
-            &settings,
-            "bilbo-signatures 1\nsession 0\nregister 2 00000000\nregister 3 00000001\nend\n"
-        )
-    );
+    assert!(rt; schedules(rt.alloc(), half::TEXT, &settings, half::BY_ONE_CELL[0]));
+    assert!(rt; signs(rt.alloc(), half::TEXT, &settings, half::BY_ONE_CELL[1]));
 }
 
 #[test]
@@ -194,7 +181,7 @@ fn a_plan_that_is_not_had_is_refused_for_its_cause(rt: HostRuntime) {
     assert!(rt;
         refuses(
             alloc,
-            NINE,
+            NINE_INPUTS,
             &of_width(8),
             MakeFault::GateTooWide {
                 gate: 0,
@@ -210,7 +197,7 @@ fn a_plan_that_is_not_had_is_refused_for_its_cause(rt: HostRuntime) {
     assert!(rt;
         refuses(
             alloc,
-            HALF,
+            half::TEXT,
             &degree,
             MakeFault::DegreeLimit {
                 max: 1,
@@ -225,7 +212,7 @@ fn a_plan_that_is_not_had_is_refused_for_its_cause(rt: HostRuntime) {
     assert!(rt;
         refuses(
             alloc,
-            HALF,
+            half::TEXT,
             &cycles,
             MakeFault::CycleLimit {
                 needed: 9,

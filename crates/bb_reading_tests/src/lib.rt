@@ -1,4 +1,6 @@
-//! Tests of reading: what texts give, by examples. Nothing stands on this crate.
+//! Tests of reading: what modules and files denote, by examples.
+//!
+//! A crate of its own, so that the others are proved once, without their tests. It uses public calls alone.
 #![tactic(auto)]
 
 #[cfg(test)]
@@ -7,7 +9,3 @@ mod elaboration;
 mod evaluation;
 #[cfg(test)]
 mod files;
-#[cfg(test)]
-mod lexer;
-#[cfg(test)]
-mod parser;

@@ -1,12 +1,12 @@
-//! A half adder, and the four files that are made of it at width 2.
+//! A half adder, and the files that are made of it at width 2.
 
 /// The half adder.
-pub(crate) const HALF: &str =
+pub const TEXT: &str =
     "module half (a, b, s, c);\ninput a;\ninput b;\noutput s;\noutput c;\nxor (s, a, b);\n\
     and (c, a, b);\nendmodule\n";
 
 /// The half adder with its self-test.
-pub(crate) const NETLIST: &str =
+pub const NETLIST: &str =
     "module half (a, b, s, c, bt_clk, bt_test, bt_init, bt_so, bt_done);\ninput a;\ninput b;\noutput s;\n\
     output c;\ninput bt_clk;\ninput bt_test;\ninput bt_init;\noutput bt_so;\noutput bt_done;\n\
     wire bt_ni;\nwire bt_nt;\nwire bt_go;\nwire bt_ngo;\nwire bt_par;\nwire bt_low;\nwire bt_f;\n\
@@ -45,15 +45,41 @@ pub(crate) const NETLIST: &str =
     dff bt_f7 (bt_clk, bt_q2, bt_d2);\ndff bt_f8 (bt_clk, bt_q3, bt_d3);\nendmodule\n";
 
 /// Its schedule.
-pub(crate) const SCHEDULE: &str =
+pub const SCHEDULE: &str =
     "bilbo-schedule 1\nwidth 2\ndegree 2\nmask 00000003\nregister 00000003\ncell input 0 00000001\n\
     cell input 1 00000002\nregister 00000003\ncell output 2 00000000\ncell output 3 00000000\n\
     session 1\ncycles 9\nend\n";
 
 /// Its signatures.
-pub(crate) const SIGNATURES: &str = "bilbo-signatures 1\nsession 0\nregister 1 00000002\nend\n";
+pub const SIGNATURES: &str = "bilbo-signatures 1\nsession 0\nregister 1 00000002\nend\n";
 
 /// Its certificate.
-pub(crate) const CERTIFICATE: &str =
+pub const CERTIFICATE: &str =
     "bilbo-certificate 1\nperiod 4\nsegment 2 0 00000001 1 00000002\nsegment 3 0 00000001 1 00000002\n\
     end\n";
+
+/// Its four files.
+pub const FILES: [&str; 4] = [NETLIST, SCHEDULE, SIGNATURES, CERTIFICATE];
+
+/// The five texts that a check of them reads.
+pub const TEXTS: [&str; 5] = [TEXT, NETLIST, SCHEDULE, SIGNATURES, CERTIFICATE];
+
+/// Its schedule, signatures and certificate at degree 3.
+pub const AT_DEGREE_THREE: [&str; 3] = [
+    "bilbo-schedule 1\nwidth 2\ndegree 3\nmask 00000005\nregister 00000003\ncell input 0 00000001\n\
+        cell input 1 00000002\nregister 00000003\ncell output 2 00000000\ncell output 3 00000000\n\
+        session 1\ncycles 17\nend\n",
+    "bilbo-signatures 1\nsession 0\nregister 1 00000003\nend\n",
+    "bilbo-certificate 1\nperiod 8\nsegment 2 0 00000001 1 00000002\n\
+        segment 3 0 00000001 1 00000002\nend\n",
+];
+
+/// Those with registers of one cell.
+pub const BY_ONE_CELL: [&str; 3] = [
+    "bilbo-schedule 1\nwidth 2\ndegree 2\nmask 00000003\nregister 00000001\ncell input 0 00000001\n\
+        register 00000001\ncell input 1 00000002\nregister 00000001\ncell output 2 00000000\n\
+        register 00000001\ncell output 3 00000000\nsession 2 3\ncycles 9\nend\n",
+    "bilbo-signatures 1\nsession 0\nregister 2 00000000\nregister 3 00000001\nend\n",
+    "bilbo-certificate 1\nperiod 4\nsegment 2 0 00000001 1 00000002\n\
+        segment 3 0 00000001 1 00000002\nend\n",
+];

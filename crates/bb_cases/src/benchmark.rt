@@ -1,7 +1,7 @@
 //! A small benchmark of ten gates and three flip-flops in two forms, and three of the files that are made of it.
 
 /// Its gates as primitives.
-pub(crate) const PLAIN: &str = "module s (clk, G0, G1, G2, G3, G17);\n\
+pub const PLAIN: &str = "module s (clk, G0, G1, G2, G3, G17);\n\
     input clk, G0, G1, G2, G3;\n\
     output G17;\n\
     wire G5, G6, G7, G8, G9, G10, G11, G12, G13, G14, G15, G16;\n\
@@ -21,7 +21,7 @@ pub(crate) const PLAIN: &str = "module s (clk, G0, G1, G2, G3, G17);\n\
     endmodule\n";
 
 /// The same with comments, attributes, cells for the gates, and a clock that comes through a buffer.
-pub(crate) const MADE: &str = "/* made */\n\
+pub const MADE: &str = "/* made */\n\
     (* top = 1 *)\n\
     module s (clk, G0, G1, G2, G3, G17);\n\
     input clk, G0, G1, G2, G3;\n\
@@ -55,18 +55,21 @@ pub(crate) const MADE: &str = "/* made */\n\
     endmodule\n";
 
 /// Its schedule.
-pub(crate) const SCHEDULE: &str =
+pub const SCHEDULE: &str =
     "bilbo-schedule 1\nwidth 8\ndegree 6\nmask 00000021\nregister 00000041\ncell input 0 00000001\n\
     cell input 1 00000002\ncell input 2 00000001\ncell input 3 00000004\ncell split 5 00000008\n\
     cell split 6 00000010\ncell split 7 00000020\nregister 00000009\ncell watch 5 00000000\n\
     cell watch 6 00000000\ncell watch 7 00000000\ncell output 4 00000000\nsession 1\ncycles 129\nend\n";
 
 /// Its signatures.
-pub(crate) const SIGNATURES: &str = "bilbo-signatures 1\nsession 0\nregister 1 00000007\nend\n";
+pub const SIGNATURES: &str = "bilbo-signatures 1\nsession 0\nregister 1 00000007\nend\n";
 
 /// Its certificate.
-pub(crate) const CERTIFICATE: &str = "bilbo-certificate 1\nperiod 64\n\
+pub const CERTIFICATE: &str = "bilbo-certificate 1\nperiod 64\n\
     segment 7 0 00000001 1 00000002 3 00000004 4 00000008 5 00000010 6 00000020\n\
     segment 8 0 00000001 1 00000002 3 00000004 4 00000008 5 00000010 6 00000020\n\
     segment 9 1 00000002 2 00000001 6 00000020\n\
     segment 10 0 00000001 1 00000002 3 00000004 4 00000008 5 00000010 6 00000020\nend\n";
+
+/// The three.
+pub const NUMBERS: [&str; 3] = [SCHEDULE, SIGNATURES, CERTIFICATE];
