@@ -6,10 +6,10 @@ use Rattle.std.specs.List.{AllByRecursion, flat_map}
 use Rattle.bb_base.specs.Places.{IsFirstWrong}
 use Rattle.bb_base.proofs.Contained.{of_all, contains_at}
 use Rattle.bb_base.proofs.Lists.{all_front, all_back, all_parts, all_map, get_some}
-use Rattle.bb_netlist.specs.Net.{Gate, Flop, Netlist, renamed_gate, renamed_flop, reads}
-use Rattle.bb_netlist.specs.Drivers.{Drives}
-use Rattle.bb_netlist.specs.declared.netlist.Driver.TheVariants.{Gate as GateAt, Flop as FlopAt}
-use Rattle.bb_net.specs.Named.{Named, IsNamed}
+use Rattle.bb_base.specs.Net.{Gate, Flop, Netlist, renamed_gate, renamed_flop, reads}
+use Rattle.bb_base.specs.Drivers.{Drives}
+use Rattle.bb_base.specs.declared.netlist.Driver.TheVariants.{Gate as GateAt, Flop as FlopAt}
+use Rattle.bb_base.specs.Named.{Named, IsNamed}
 use Rattle.bb_net.specs.Sites.{Site, site_of, sited}
 use Rattle.bb_alike.specs.Alike.{Feeding, Through, Held, Feeds, IsFedAlike, IsOneMore}
 use Rattle.bb_alike.specs.Found.{AreNetsAt}

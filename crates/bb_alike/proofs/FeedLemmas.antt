@@ -5,14 +5,14 @@ use Rattle.std.proofs.lemmas.List.Elements.{recursion_from_All}
 use Rattle.std.specs.List.{AllByRecursion}
 use Rattle.bb_base.proofs.Contained.{here, there, of_all, contains_map, contains_at}
 use Rattle.bb_base.proofs.Distinct.{Distinct, distinct_map}
-use Rattle.bb_netlist.specs.Net.{Gate, Flop, Netlist, renamed_gate, renamed_flop, driven, times}
-use Rattle.bb_netlist.specs.Drivers.{Drives}
-use Rattle.bb_netlist.specs.declared.netlist.Driver.{Driver}
-use Rattle.bb_netlist.specs.declared.netlist.Driver.TheVariants.{Input as InputAt, Gate as GateAt, Flop as FlopAt}
-use Rattle.bb_netlist.proofs.GateLemmas.{driven_distinct}
-use Rattle.bb_netlist.proofs.Renamed.{driven_renamed}
-use Rattle.bb_netlist.proofs.TimesLemmas.{times_head}
-use Rattle.bb_net.specs.Named.{Named, IsNamed}
+use Rattle.bb_base.specs.Net.{Gate, Flop, Netlist, renamed_gate, renamed_flop, driven, times}
+use Rattle.bb_base.specs.Drivers.{Drives}
+use Rattle.bb_base.specs.declared.netlist.Driver.{Driver}
+use Rattle.bb_base.specs.declared.netlist.Driver.TheVariants.{Input as InputAt, Gate as GateAt, Flop as FlopAt}
+use Rattle.bb_base.proofs.GateLemmas.{driven_distinct}
+use Rattle.bb_base.proofs.Renamed.{driven_renamed}
+use Rattle.bb_base.proofs.TimesLemmas.{times_head}
+use Rattle.bb_base.specs.Named.{Named, IsNamed}
 use Rattle.bb_net.specs.Sites.{Site, site_of, sited}
 use Rattle.bb_net.proofs.SiteLemmas.{net_by_site}
 use Rattle.bb_alike.specs.Alike.{Feeding, Outside, Through, Held, Feeds, IsFedAlike}

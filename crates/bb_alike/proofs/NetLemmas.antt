@@ -12,7 +12,7 @@ use Rattle.bb_base.proofs.Distinct.{one_place}
 use Rattle.bb_base.proofs.Lists.{get_map}
 use Rattle.bb_base.specs.Variables.{Entry, IsBit, bit_at}
 use Rattle.bb_base.specs.declared.variable.BitName.{BitName}
-use Rattle.bb_net.specs.Named.{Named, IsNamed, lookup_of, name_of_net}
+use Rattle.bb_base.specs.Named.{Named, IsNamed, lookup_of, name_of_net}
 use Rattle.bb_net.specs.Sites.{Site, site_in, site_of, site_of_bit}
 use Rattle.bb_net.proofs.SiteLemmas.{net_by_site, net_bit}
 use Rattle.bb_alike.specs.Found.{IsNetAt, AreNetsAt}

@@ -2,8 +2,8 @@
 use Rattle.std.specs.Prelude.{◌≡◌, ◌⊎◌, ◌↔◌, ℕ, ◌+◌, ◌<◌, take, length, Contains}
 use Rattle.bb_base.specs.Places.{EachAt, IsFirstWrong}
 use Rattle.bb_base.specs.Variables.{ports_of}
-use Rattle.bb_netlist.specs.Net.{Gate, Flop, Netlist}
-use Rattle.bb_net.specs.Named.{Named}
+use Rattle.bb_base.specs.Net.{Gate, Flop, Netlist}
+use Rattle.bb_base.specs.Named.{Named}
 use Rattle.bb_net.specs.Sites.{Site, site_of, sited}
 
 -- module, ports with their ranges, and clock are those of w

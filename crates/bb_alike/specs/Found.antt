@@ -1,7 +1,7 @@
 -- The nets of one netlist at the sites of another's. No public contract cites this.
 use Rattle.std.specs.Prelude.{◌≡◌, ℕ, ◌<◌, List, length, Option, None, Some}
 use Rattle.bb_base.specs.Places.{EachAt}
-use Rattle.bb_net.specs.Named.{Named}
+use Rattle.bb_base.specs.Named.{Named}
 use Rattle.bb_net.specs.Sites.{Site, site_of}
 
 -- the net at a site, where there is one

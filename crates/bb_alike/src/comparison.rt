@@ -7,8 +7,8 @@ ghost use Rattle.bb_alike.specs.Alike.{AgreesWith, NetlistsDifferAt};
 use crate::drivers::first_unlike;
 use crate::front::has_front;
 use crate::nets::{net_count, same_nets};
+use bb_base::NetId;
 use bb_net::Named;
-use bb_netlist::NetId;
 use std::alloc::{AllocError, Global};
 
 /// Whether some net has none at its site in the other netlist.

@@ -3,13 +3,13 @@
 ghost use Rattle.std.specs.Prelude.{◌≡◌, ◌↔◌, ◌<◌, ℕ, map, length, All, None, Some, IsTrue, Contains, slice_index_or};
 ghost use Rattle.bb_base.specs.Places.{IsFirstWrong};
 ghost use Rattle.bb_net.specs.Sites.{site_of, sited};
-ghost use Rattle.bb_netlist.specs.Net.{renamed_gate, renamed_flop};
+ghost use Rattle.bb_base.specs.Net.{renamed_gate, renamed_flop};
 ghost use Rattle.bb_alike.specs.Alike.{Feeds, Outside, Through, Held, IsFedAlike, NetsAgree};
 ghost use Rattle.bb_alike.specs.Found.{AreNetsAt};
 
 use crate::nets::net_count;
-use bb_net::{Named, Op};
-use bb_netlist::{Driver, Flop, Gate, NetId};
+use bb_base::{Driver, Flop, Gate, NetId, Op};
+use bb_net::Named;
 
 /// The entry of a net.
 fn entry_of(nets: &[Option<NetId>], net: NetId) -> Option<NetId>

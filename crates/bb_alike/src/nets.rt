@@ -2,12 +2,12 @@
 
 ghost use Rattle.std.specs.Prelude.{◌≡◌, ◌<◌, ◌-◌, ◌^◌, map, length, IfOk, Some, slice_get};
 ghost use Rattle.bb_base.specs.Variables.{Entry};
-ghost use Rattle.bb_net.specs.Named.{lookup_of};
+ghost use Rattle.bb_base.specs.Named.{lookup_of};
 ghost use Rattle.bb_net.specs.Sites.{site_of};
 ghost use Rattle.bb_alike.specs.Found.{IsNetAt, AreNetsAt};
 
-use bb_net::{BitName, Named};
-use bb_netlist::NetId;
+use bb_base::{BitName, NetId};
+use bb_net::Named;
 use std::alloc::{AllocError, Global};
 
 /// The number of the variable with the name of another netlist's variable.

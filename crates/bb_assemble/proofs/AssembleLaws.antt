@@ -9,10 +9,10 @@ use Rattle.bb_base.specs.declared.variable.BitName.{BitName}
 use Rattle.bb_base.specs.declared.variable.Role.{Role}
 use Rattle.bb_base.specs.declared.variable.Role.TheVariants.{Input, Output, Wire}
 use Rattle.bb_base.specs.Variables.{Entry, is_port, is_input, is_output, range_width, bit_at, clock_place, places_but, data_bits, role_bits, bit_count}
-use Rattle.bb_net.specs.Named.{Named, name_of_net}
+use Rattle.bb_base.specs.Named.{Named, name_of_net}
 use Rattle.bb_base.proofs.Lists.{map_join, length_map}
 use Rattle.bb_drive.specs.Nets.{bit_name, bits_from, input_bits, output_bits}
-use Rattle.bb_assemble.specs.NamedOf.{place_among}
+use Rattle.bb_drive.specs.NamedOf.{place_among}
 use Rattle.bb_assemble.specs.Assembling.{is_clock_bit, bit_place, kept_places, KeepsPorts}
 use Rattle.bb_assemble.proofs.RangeLaws.{filter_range, places_left}
 use Rattle.bb_assemble.proofs.NamedBits.{name_below, name_here, bit_count_join}

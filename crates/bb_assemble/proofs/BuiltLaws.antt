@@ -9,16 +9,16 @@ use Rattle.std.specs.List.{range_with_len, AllByRecursion}
 use Rattle.std.specs.Option.{option_map}
 use Rattle.bb_base.specs.declared.variable.BitName.{BitName}
 use Rattle.bb_base.specs.Variables.{Entry, is_input, is_output, role_bits, bit_count}
-use Rattle.bb_netlist.specs.Net.{Gate, Flop, renamed_gate, renamed_flop}
-use Rattle.bb_net.specs.Named.{Named, IsConsistent}
+use Rattle.bb_base.specs.Net.{Gate, Flop, renamed_gate, renamed_flop}
+use Rattle.bb_base.specs.Named.{Named, IsConsistent}
 use Rattle.bb_base.proofs.Lists.{length_map, in_front}
-use Rattle.bb_drive.specs.Work.{Work, Clocked}
+use Rattle.bb_fault.specs.Work.{Work, Clocked}
 use Rattle.bb_drive.specs.Nets.{bit_name, has_bit, input_bits, output_bits, nets, driver_fault}
 use Rattle.bb_drive.specs.Clock.{clock_of, first_of, origin, clock_fault, is_data}
-use Rattle.bb_assemble.specs.NamedOf.{kept, place_among, named_of}
+use Rattle.bb_drive.specs.NamedOf.{kept, place_among, named_of}
 use Rattle.bb_drive.specs.Within.{IsWithin, IsGateWithin, IsFlopWithin}
 use Rattle.bb_assemble.specs.Assembling.{number_for, is_kept, clock_below, KeepsPorts, IsNumbering, numbered_flop, AreAdded}
-use Rattle.bb_net.specs.Building.{with_gates, with_flops, started}
+use Rattle.bb_base.specs.Building.{with_gates, with_flops, started}
 use Rattle.bb_drive.specs.Origins.{is_marked}
 use Rattle.bb_assemble.proofs.NumberLaws.{filter_short}
 use Rattle.bb_assemble.proofs.RangeLaws.{filter_range}

@@ -8,13 +8,13 @@ use Rattle.std.specs.List.{AllByRecursion}
 use Rattle.bb_base.specs.Variables.{Entry}
 use Rattle.bb_base.proofs.Distinct.{few_distinct}
 use Rattle.bb_base.proofs.Lists.{length_map}
-use Rattle.bb_netlist.specs.Net.{Gate, driven, times}
-use Rattle.bb_netlist.proofs.TimesLemmas.{once_distinct, standing}
-use Rattle.bb_net.specs.Named.{Named}
-use Rattle.bb_drive.specs.Work.{Work, Clocked}
+use Rattle.bb_base.specs.Net.{Gate, driven, times}
+use Rattle.bb_base.proofs.TimesLemmas.{once_distinct, standing}
+use Rattle.bb_base.specs.Named.{Named}
+use Rattle.bb_fault.specs.Work.{Work, Clocked}
 use Rattle.bb_drive.specs.Within.{IsGateWithin, IsFlopWithin}
 use Rattle.bb_drive.specs.Nets.{has_bit, bit_name, input_bits}
-use Rattle.bb_assemble.specs.NamedOf.{kept, named_of}
+use Rattle.bb_drive.specs.NamedOf.{kept, named_of}
 use Rattle.bb_assemble.proofs.KeptLaws.{counted}
 use Rattle.bb_assemble.proofs.KeptNets.{IsFineWork, all_images, few_drivers, parts_counted, driven_net, has_front, has_back}
 use Rattle.bb_assemble.proofs.NumberedNets.{times_by, distinct_apart, once}

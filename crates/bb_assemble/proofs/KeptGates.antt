@@ -3,8 +3,8 @@ use Rattle.std.proofs.Common.{◌≡◌, ℕ, ◌<◌, List, map, All, Bool, sli
 use Rattle.std.proofs.lemmas.List.Elements.{recursion_from_All, All-from_recursion}
 use Rattle.std.specs.List.{AllByRecursion}
 use Rattle.bb_base.specs.Variables.{Entry}
-use Rattle.bb_netlist.specs.Net.{Gate, HasArity}
-use Rattle.bb_drive.specs.Work.{Work, Clocked}
+use Rattle.bb_base.specs.Net.{Gate, HasArity}
+use Rattle.bb_fault.specs.Work.{Work, Clocked}
 use Rattle.bb_drive.specs.Within.{IsGateWithin}
 use Rattle.bb_assemble.specs.Assembling.{number_for, HasNet, HasNets, HasBothNets, HasNetsWhereFlagged}
 use Rattle.bb_assemble.proofs.BuiltLaws.{AreFlags, flag_is, IsNumbered}

@@ -11,11 +11,11 @@ use Rattle.std.specs.Option.{option_or, option_map}
 use Rattle.bb_base.specs.declared.variable.Role.{Role}
 use Rattle.bb_base.specs.declared.variable.Role.TheVariants.{Input, Output, Wire}
 use Rattle.bb_base.specs.Variables.{Entry, is_port, is_input, is_output, range_width}
-use Rattle.bb_netlist.specs.Net.{Gate}
+use Rattle.bb_base.specs.Net.{Gate}
 use Rattle.bb_fault.specs.declared.fault.ElabFault.{ElabFault}
 use Rattle.bb_fault.specs.declared.fault.ElabFault.TheVariants.{TwoDrivers, ClockNotInput, ClockAsData}
 use Rattle.bb_fault.specs.Firsts.{on_some}
-use Rattle.bb_drive.specs.Work.{Work, Clocked}
+use Rattle.bb_fault.specs.Work.{Work, Clocked}
 use Rattle.bb_drive.specs.Nets.{bits_from, input_bits, output_bits, bits_driven, bits_read, has_bit, nets, bit_text, first_net, two_drivers, undriven, driver_fault}
 use Rattle.bb_drive.specs.Clock.{is_buf, copied_by, origin_within, origin, clock_pins, clock_not_input, two_clocks, clock_of, first_of, is_clock, read_as_data, clock_as_data, clock_fault, is_data}
 use Rattle.bb_drive.specs.Within.{IsWithin, IsFlopWithin}

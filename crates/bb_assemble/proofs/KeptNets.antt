@@ -11,17 +11,17 @@ use Rattle.bb_base.specs.declared.operator.Op.{Op}
 use Rattle.bb_base.specs.declared.operator.Op.TheVariants as op
 use Rattle.bb_base.specs.Operators.{IsArity}
 use Rattle.bb_base.specs.Variables.{Entry, is_input, is_output, bit_count}
-use Rattle.bb_netlist.specs.Net.{Gate, Flop, HasArity, driven, reads}
+use Rattle.bb_base.specs.Net.{Gate, Flop, HasArity, driven, reads}
 use Rattle.bb_base.proofs.Lists.{all_join}
 use Rattle.bb_fault.specs.declared.fault.ElabFault.TheVariants.{TwoDrivers, Undriven, ClockAsData}
 use Rattle.bb_fault.specs.Firsts.{on_some}
-use Rattle.bb_drive.specs.Work.{Work, Clocked}
+use Rattle.bb_fault.specs.Work.{Work, Clocked}
 use Rattle.bb_drive.specs.Within.{IsWithin, IsGateWithin, IsFlopWithin}
 use Rattle.bb_drive.specs.Nets.{input_bits, output_bits, bits_driven, bits_read, has_bit, nets, two_drivers, undriven, driver_fault}
 use Rattle.bb_drive.specs.Clock.{is_buf, first_of, copied_by, copied_net, origin, clock_not_input, two_clocks, clock_of, is_clock, read_as_data, clock_as_data, clock_fault, is_data}
 use Rattle.bb_drive.proofs.ClockLaws.{input_free}
 use Rattle.bb_drive.proofs.WayBack.{copied_origin}
-use Rattle.bb_assemble.specs.NamedOf.{kept, by_bits}
+use Rattle.bb_drive.specs.NamedOf.{kept, by_bits}
 use Rattle.bb_assemble.proofs.NamedBits.{or_left, or_right}
 use Rattle.bb_drive.proofs.BitBounds.{bits_in}
 use Rattle.bb_assemble.proofs.KeptLaws.{neither, has_filter, is_net, net_found, unnamed, input_is_net, output_is_net, counted, undriven_by, stays, clock_is_input, output_is_data, and_other}

@@ -12,13 +12,13 @@ use Rattle.bb_base.specs.declared.variable.BitName.{BitName}
 use Rattle.bb_base.specs.declared.variable.Role.{Role}
 use Rattle.bb_base.specs.Variables.{Entry, IsEntry, IsBit, is_input, is_output, range_width, bit_at, bit_count}
 use Rattle.bb_base.proofs.Lists.{length_map}
-use Rattle.bb_netlist.specs.Net.{renamed_flop, driven, reads, HasArity}
-use Rattle.bb_net.specs.Named.{Named, name_of_net, IsClock, IsConsistent, IsNamed}
+use Rattle.bb_base.specs.Net.{renamed_flop, driven, reads, HasArity}
+use Rattle.bb_base.specs.Named.{Named, name_of_net, IsClock, IsConsistent, IsNamed}
 use Rattle.bb_fault.specs.Firsts.{on_some}
-use Rattle.bb_drive.specs.Work.{Work, Clocked}
+use Rattle.bb_fault.specs.Work.{Work, Clocked}
 use Rattle.bb_drive.specs.Nets.{bit_name, bits_from, has_bit, input_bits, output_bits}
 use Rattle.bb_drive.specs.Clock.{clock_of, first_of, origin, is_data}
-use Rattle.bb_assemble.specs.NamedOf.{kept, place_among, named_of}
+use Rattle.bb_drive.specs.NamedOf.{kept, place_among, named_of}
 use Rattle.bb_assemble.specs.Assembling.{ArePortsFirst, KeepsPorts}
 use Rattle.bb_assemble.proofs.NamedBits.{one_name, name_least}
 use Rattle.bb_drive.proofs.BitBounds.{range_in, or_split, bits_in}

@@ -7,7 +7,7 @@ use Rattle.std.proofs.lemmas.List.Elements.{recursion_from_All, All-from_recursi
 use Rattle.std.proofs.lemmas.List.Filters.{length-filter_both}
 use Rattle.std.specs.List.{AllByRecursion, AllClonesOf}
 use Rattle.bb_drive.specs.Origins.{is_marked}
-use Rattle.bb_assemble.specs.NamedOf.{place_among}
+use Rattle.bb_drive.specs.NamedOf.{place_among}
 
 pub drop_pop : {X : Type 0} (xs : List X) (n : ℕ) (x : X) → slice_get xs n ≡ Some x → drop n xs ≡ x ∷ drop (n + 1) xs
 drop_pop [] n x h = cc

@@ -13,14 +13,14 @@ use Rattle.bb_base.specs.Variables.{Entry, is_input, is_output, range_width}
 use Rattle.bb_base.specs.Operators.{IsArity}
 use Rattle.bb_base.proofs.Distinct.{Distinct}
 use Rattle.bb_base.proofs.Lists.{map_join, map_twice, length_map, all_join, all_front}
-use Rattle.bb_netlist.specs.Net.{Gate, Flop, Netlist, renamed_gate, driven, reads, times, HasArity, IsNetlist}
-use Rattle.bb_netlist.proofs.Renamed.{driven_renamed, reads_renamed}
-use Rattle.bb_netlist.proofs.TimesLemmas.{times_join, times_head, times_past, times_range, times_range_before, once_distinct, length_once}
+use Rattle.bb_base.specs.Net.{Gate, Flop, Netlist, renamed_gate, driven, reads, times, HasArity, IsNetlist}
+use Rattle.bb_base.proofs.Renamed.{driven_renamed, reads_renamed}
+use Rattle.bb_base.proofs.TimesLemmas.{times_join, times_head, times_past, times_range, times_range_before, once_distinct, length_once}
 use Rattle.bb_fault.proofs.Parted.{both-first, both-second}
-use Rattle.bb_drive.specs.Work.{Work, Clocked}
+use Rattle.bb_fault.specs.Work.{Work, Clocked}
 use Rattle.bb_drive.specs.Nets.{bit_name, bits_from, input_bits, bits_driven, has_bit, nets}
 use Rattle.bb_drive.specs.Clock.{is_data}
-use Rattle.bb_assemble.specs.NamedOf.{kept, by_bits, place_among, netlist_by_number}
+use Rattle.bb_drive.specs.NamedOf.{kept, by_bits, place_among, netlist_by_number}
 use Rattle.bb_drive.proofs.BitBounds.{range_in}
 use Rattle.std.proofs.lemmas.List.{get_or-map}
 use Rattle.bb_assemble.proofs.NamedBits.{one_name}

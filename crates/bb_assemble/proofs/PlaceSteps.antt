@@ -5,10 +5,10 @@ use Rattle.std.proofs.lemmas.List.{length-take}
 use Rattle.std.proofs.lemmas.List.Filters.{length-filter_both}
 use Rattle.std.specs.List.{range_with_len}
 use Rattle.bb_base.specs.Variables.{Entry, is_port, range_width, bit_at, places_but}
-use Rattle.bb_net.specs.Named.{Named}
-use Rattle.bb_net.specs.Building.{IsEarlier, with_net, port_bits, with_gates}
+use Rattle.bb_base.specs.Named.{Named}
+use Rattle.bb_base.specs.Building.{IsEarlier, with_net, port_bits, with_gates}
 use Rattle.bb_base.proofs.Lists.{map_join, length_map}
-use Rattle.bb_netlist.specs.Net.{Gate}
+use Rattle.bb_base.specs.Net.{Gate}
 use Rattle.bb_net.proofs.PlaceLemmas.{range_push, bit_pushed, still_earlier}
 use Rattle.bb_base.specs.declared.variable.Role.{Role}
 use Rattle.bb_base.specs.declared.variable.Role.TheVariants.{Input, Output}

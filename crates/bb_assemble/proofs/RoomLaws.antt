@@ -10,8 +10,8 @@ use Rattle.bb_base.specs.declared.variable.BitName.{BitName}
 use Rattle.bb_base.specs.declared.variable.Variable.{Variable}
 use Rattle.bb_base.specs.Variables.{Entry, IsBit, is_port, is_input, range_width, bit_at, bit_eq, places_but, bit_count}
 use Rattle.bb_base.proofs.Lists.{length_map}
-use Rattle.bb_net.specs.Named.{Named, lookup_of}
-use Rattle.bb_net.specs.Building.{net_limit, port_bits, with_net}
+use Rattle.bb_base.specs.Named.{Named, lookup_of}
+use Rattle.bb_base.specs.Building.{net_limit, port_bits, with_net}
 use Rattle.bb_net.proofs.CountLemmas.{variables_few}
 use Rattle.bb_fault.proofs.Keys.{other_name}
 use Rattle.bb_drive.specs.Nets.{bit_name, has_bit, input_bits}

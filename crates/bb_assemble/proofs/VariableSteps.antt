@@ -7,8 +7,8 @@ use Rattle.std.specs.List.{range_with_len, AllByRecursion}
 use Rattle.std.specs.Option.{ForSome}
 use Rattle.bb_base.specs.declared.variable.BitName.{BitName}
 use Rattle.bb_base.specs.Variables.{Entry, IsEntry, is_port, range_width, bit_at, bit_count}
-use Rattle.bb_net.specs.Named.{Named}
-use Rattle.bb_net.specs.Building.{clock_with}
+use Rattle.bb_base.specs.Named.{Named}
+use Rattle.bb_base.specs.Building.{clock_with}
 use Rattle.bb_base.proofs.Lists.{map_join, get_front, get_back}
 use Rattle.bb_net.proofs.VariableLemmas.{all_at}
 use Rattle.bb_drive.specs.Nets.{bit_name, bits_from, has_bit}

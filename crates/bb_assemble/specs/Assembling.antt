@@ -4,10 +4,10 @@ use Rattle.std.specs.Prelude.{◌≡◌, ℕ, ◌+◌, ◌-◌, ◌<◌, nat_eq,
 use Rattle.std.specs.List.{range_with_len, position_or_len}
 use Rattle.bb_base.specs.declared.variable.BitName.{BitName}
 use Rattle.bb_base.specs.Variables.{Entry, is_port, bit_at, bit_count}
-use Rattle.bb_netlist.specs.Net.{Gate, Flop}
-use Rattle.bb_net.specs.Named.{Named}
-use Rattle.bb_net.specs.Building.{clock_with}
-use Rattle.bb_drive.specs.Work.{Clocked}
+use Rattle.bb_base.specs.Net.{Gate, Flop}
+use Rattle.bb_base.specs.Named.{Named}
+use Rattle.bb_base.specs.Building.{clock_with}
+use Rattle.bb_fault.specs.Work.{Clocked}
 use Rattle.bb_drive.specs.Origins.{is_marked}
 use Rattle.bb_drive.specs.Nets.{bits_from, bit_name, has_bit}
 

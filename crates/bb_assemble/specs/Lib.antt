@@ -1,2 +1,1 @@
-pub mod NamedOf
 pub mod Assembling

@@ -8,21 +8,21 @@
 ghost use Rattle.std.specs.Prelude.{◌≡◌, ◌<◌, ◌≤◌, ◌+◌, ◌-◌, ◌^◌, ◌∷◌, [], IfOk, OnOk, Some, None, ℕ, All, true, not, map, filter, length, slice_get};
 ghost use Rattle.std.specs.Option.{ForSome};
 ghost use Rattle.bb_base.specs.Variables.{IsEntry, IsRange, IsBit, is_port, is_input, range_width, bit_at, bit_count};
-ghost use Rattle.bb_netlist.specs.Net.{renamed_gate, HasArity};
-ghost use Rattle.bb_net.specs.Named.{IsNamed, lookup_of};
-ghost use Rattle.bb_net.specs.Building.{net_limit, MayClock, port_bits, with_gates, with_flops};
+ghost use Rattle.bb_base.specs.Net.{renamed_gate, HasArity};
+ghost use Rattle.bb_base.specs.Named.{IsNamed, lookup_of};
+ghost use Rattle.bb_base.specs.Building.{net_limit, MayClock, port_bits, with_gates, with_flops};
 ghost use Rattle.bb_drive.specs.Nets.{nets, driver_fault, has_bit, input_bits};
 ghost use Rattle.bb_drive.specs.Clock.{clock_of, clock_fault, is_data};
-ghost use Rattle.bb_assemble.specs.NamedOf.{named_of};
+ghost use Rattle.bb_drive.specs.NamedOf.{named_of};
 ghost use Rattle.bb_drive.specs.Within.{IsWithin, IsGateWithin, IsFlopWithin};
 ghost use Rattle.bb_assemble.specs.Assembling.{ArePortsFirst, number_for, is_kept, is_clock_bit, bit_place, kept_bits, with_names, Adds, AreAdded, KeepsPorts, numbered_flop, HasNets, HasNetsWhereFlagged, HasBothNets};
 ghost use Rattle.bb_drive.specs.Origins.{is_marked};
 
 use crate::numbers::{nets_of, numbers_of};
-use bb_base::{Name, Role, Variable, width_of};
-use bb_drive::{Clock, Clocked, Work};
+use bb_base::{Gate, Name, NetFault, NetId, Role, Variable, width_of};
+use bb_drive::Clock;
+use bb_fault::{Clocked, Work};
 use bb_net::{Builder, Named};
-use bb_netlist::{Gate, NetFault, NetId};
 use indexmap::IndexMap;
 use std::alloc::{AllocError, Global};
 

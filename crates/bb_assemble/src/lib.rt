@@ -1,6 +1,6 @@
 //! The named netlist of what a module's items make, without the clock's nets.
 //!
-//! - `assemble` answers exactly the netlist that `specs/NamedOf.antt` says, which is a valid one.
+//! - `assemble` answers exactly the netlist that `specs/NamedOf.antt` of `bb_drive` says, which is a valid one.
 #![tactic(auto)]
 
 mod assembly;

@@ -1,11 +1,11 @@
 //! The nets that are kept, and their numbers.
 
 ghost use Rattle.std.specs.Prelude.{◌≡◌, ◌<◌, ◌≤◌, ◌^◌, ℕ, IfOk, Some, All, length, filter, slice_get, map};
-ghost use Rattle.bb_assemble.specs.NamedOf.{place_among};
+ghost use Rattle.bb_drive.specs.NamedOf.{place_among};
 ghost use Rattle.bb_assemble.specs.Assembling.{number_for, IsNumbering};
 ghost use Rattle.bb_drive.specs.Origins.{is_marked};
 
-use bb_netlist::NetId;
+use bb_base::NetId;
 use std::alloc::{AllocError, Global};
 
 /// The bits whose flags are set.

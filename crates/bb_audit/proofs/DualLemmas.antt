@@ -5,11 +5,11 @@ use Rattle.std.proofs.lemmas.List.Elements.{All-from_recursion, All-contains}
 use Rattle.std.specs.List.{flat_map}
 use Rattle.bb_base.proofs.Contained.{by_place, contains_at}
 use Rattle.bb_base.proofs.Lists.{get_some, length_map, map_join}
-use Rattle.bb_gf2.specs.Dual.{IsDual}
+use Rattle.bb_base.specs.Dual.{IsDual}
 use Rattle.bb_lay.proofs.Clocks.{take_push}
-use Rattle.bb_rules.specs.declared.plan.Cell.{Cell}
-use Rattle.bb_rules.specs.Plan.{RegisterValue, PlanValue, chain}
-use Rattle.bb_rules.specs.Valid.{column_at}
+use Rattle.bb_terms.specs.declared.plan.Cell.{Cell}
+use Rattle.bb_terms.specs.Plan.{RegisterValue, PlanValue, chain}
+use Rattle.bb_terms.specs.Valid.{column_at}
 use Rattle.bb_audit.specs.Certified.{HaveDuals}
 use Rattle.bb_alike.proofs.ListLemmas.{number_at}
 

@@ -7,7 +7,7 @@ use Rattle.bb_base.specs.declared.variable.Role.TheVariants.{Input, Output, Wire
 use Rattle.bb_base.specs.declared.variable.BitName.{BitName}
 use Rattle.bb_base.specs.Variables.{Entry, IsBit, bit_at, is_input, is_output, is_port, range_width, places_but, clock_place, role_bits, ports_of}
 use Rattle.bb_base.proofs.Lists.{map_twice, map_join, same_map, get_front, get_back}
-use Rattle.bb_net.specs.Named.{Named, IsNamed, name_of_net}
+use Rattle.bb_base.specs.Named.{Named, IsNamed, name_of_net}
 use Rattle.bb_net.specs.Sites.{Site, site_in, site_of, site_of_bit, sited}
 use Rattle.bb_net.proofs.SiteLemmas.{one_site}
 use Rattle.bb_lay.proofs.Clocks.{all_gets, clock_is_port, front_long, wire_at}

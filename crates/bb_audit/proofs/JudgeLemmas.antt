@@ -3,10 +3,10 @@ use Rattle.std.proofs.Common.{arith, ◌≡◌, ℕ, ◌<◌, ◌≤◌, ◌-◌
 use Rattle.std.specs.Result.{IsErrOf}
 use Rattle.bb_audit.specs.declared.fault.AuditFault.{AuditFault}
 use Rattle.bb_audit.specs.declared.fault.AuditFault.TheVariants.{Refused}
-use Rattle.bb_net.specs.Named.{IsNamed}
+use Rattle.bb_base.specs.Named.{IsNamed}
 use Rattle.bb_ctl.specs.OwnNames.{HasOwnNames}
-use Rattle.bb_rules.specs.Rules.{Rule, Frame, Registers, Kinds, Apart, Served, Pure, Sessions, Compacted, Room, Columns, Widths, Conflicts, Codes, Period, rule_number, Holds}
-use Rattle.bb_rules.specs.Valid.{ValidValue, IsValidPlan}
+use Rattle.bb_terms.specs.Rules.{Rule, Frame, Registers, Kinds, Apart, Served, Pure, Sessions, Compacted, Room, Columns, Widths, Conflicts, Codes, Period, rule_number, Holds}
+use Rattle.bb_terms.specs.Valid.{ValidValue, IsValidPlan}
 use Rattle.bb_plan.specs.Answered.{IsAnsweredFault}
 use Rattle.bb_selftest.specs.SelfTest.{IsSelfTest}
 use Rattle.bb_selftest.proofs.Promise.{self_test}

@@ -1,6 +1,6 @@
 -- Lines of a certificate beside segments.
 use Rattle.std.proofs.Common.{◌≡◌, map}
-use Rattle.bb_rules.specs.Valid.{SegmentValue}
+use Rattle.bb_terms.specs.Valid.{SegmentValue}
 use Rattle.bb_forms.specs.CertificateText.{CertificateSegmentValue}
 use Rattle.bb_audit.specs.Certified.{line_cells, segment_cells}
 

@@ -1,7 +1,7 @@
 -- When netlists agree net by net, one mirrors the other.
 use Rattle.std.proofs.Common.{◌≡◌, ℕ, ◌<◌, length, refl, subst, ◌∙◌}
 use Rattle.bb_base.proofs.Lists.{get_some}
-use Rattle.bb_net.specs.Named.{Named, IsNamed}
+use Rattle.bb_base.specs.Named.{Named, IsNamed}
 use Rattle.bb_net.specs.Sites.{Site, site_of, sited}
 use Rattle.bb_normal.specs.Mirrors.{Mirrors}
 use Rattle.bb_alike.specs.Alike.{Feeding, Through, Held, Feeds, IsFedAlike, AgreesWith}

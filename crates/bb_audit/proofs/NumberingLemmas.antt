@@ -4,7 +4,7 @@ use Rattle.bb_base.specs.declared.variable.BitName.{BitName}
 use Rattle.bb_base.specs.Variables.{StandsBefore, IsBit, bit_at}
 use Rattle.bb_base.proofs.Contained.{here, there, either, none_in, place_of, contains_at}
 use Rattle.std.proofs.lemmas.Option.{slice_get_within, get_or_from_slice_get, slice_get-get_or}
-use Rattle.bb_net.specs.Named.{Named, IsNamed, IsByBits, name_of_net}
+use Rattle.bb_base.specs.Named.{Named, IsNamed, IsByBits, name_of_net}
 use Rattle.bb_net.specs.Sites.{Sited, site_of, site_of_bit, sited}
 use Rattle.bb_net.proofs.SiteLemmas.{one_site, net_bit}
 use Rattle.bb_alike.specs.Alike.{Feeds}

@@ -4,10 +4,10 @@ use Rattle.std.proofs.lemmas.Bool.Decides.{nat_tests}
 use Rattle.bb_base.specs.Places.{IsFirstWrong}
 use Rattle.bb_base.specs.Variables.{ports_of}
 use Rattle.bb_base.specs.declared.variable.BitName.{BitName}
-use Rattle.bb_net.specs.Named.{Named, IsNamed, name_of_net}
+use Rattle.bb_base.specs.Named.{Named, IsNamed, name_of_net}
 use Rattle.bb_net.specs.Sites.{Site, Sited, site_of, site_of_bit, sited}
-use Rattle.bb_rules.specs.Rules.{Frame, Registers, Kinds, Apart, Served, Pure, Sessions, Compacted, Room, Columns, Widths, Conflicts, Codes, Period, IsFrame}
-use Rattle.bb_rules.specs.Valid.{ValidValue}
+use Rattle.bb_terms.specs.Rules.{Frame, Registers, Kinds, Apart, Served, Pure, Sessions, Compacted, Room, Columns, Widths, Conflicts, Codes, Period, IsFrame}
+use Rattle.bb_terms.specs.Valid.{ValidValue}
 use Rattle.bb_rules.proofs.RuleLemmas.{never_both, one_failure}
 use Rattle.bb_rules.proofs.SegmentLemmas.{one_segments}
 use Rattle.bb_rules.proofs.SignatureLemmas.{one_signatures}

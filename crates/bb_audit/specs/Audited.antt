@@ -1,7 +1,7 @@
 -- What is judged: the files of a self-test as values, beside the original netlist. Whoever wrote them doesn't matter.
 use Rattle.std.specs.Prelude.{List}
-use Rattle.bb_net.specs.Named.{Named}
-use Rattle.bb_rules.specs.Plan.{PlanValue}
+use Rattle.bb_base.specs.Named.{Named}
+use Rattle.bb_terms.specs.Plan.{PlanValue}
 use Rattle.bb_forms.specs.declared.signature.Signature.{Signature}
 use Rattle.bb_forms.specs.CertificateText.{CertificateValue}
 

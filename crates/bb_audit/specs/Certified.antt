@@ -1,9 +1,9 @@
 -- Certificates: whether one lists a plan's segments with duals, and where it first doesn't (this project's own).
 use Rattle.std.specs.Prelude.{◌≡◌, ◌⊎◌, ℕ, ◌+◌, ◌<◌, ◌^◌, List, map, slice_get, All}
 use Rattle.bb_base.specs.Places.{EachAt, IsFirstWrong}
-use Rattle.bb_gf2.specs.Dual.{AreDuals}
-use Rattle.bb_rules.specs.Plan.{PlanValue}
-use Rattle.bb_rules.specs.Valid.{SegmentValue, ValidValue, column_at}
+use Rattle.bb_base.specs.Dual.{AreDuals}
+use Rattle.bb_terms.specs.Plan.{PlanValue}
+use Rattle.bb_terms.specs.Valid.{SegmentValue, ValidValue, column_at}
 use Rattle.bb_forms.specs.CertificateText.{CertificateSegmentValue, CertificateValue}
 
 -- the first place at which two lists differ, be it that one of them has ended

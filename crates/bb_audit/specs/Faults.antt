@@ -1,9 +1,9 @@
 -- The first rule that files fail, and the place at which they first do.
 use Rattle.std.specs.Prelude.{◌≡◌, ℕ, ◌<◌, ◌-◌, ◌^◌, List, min}
-use Rattle.bb_net.specs.Named.{Named, IsNamed, IsByBits}
+use Rattle.bb_base.specs.Named.{Named, IsNamed, IsByBits}
 use Rattle.bb_net.specs.Sites.{sited}
-use Rattle.bb_rules.specs.Rules.{FailsAt}
-use Rattle.bb_rules.specs.Valid.{ValidValue}
+use Rattle.bb_terms.specs.Rules.{FailsAt}
+use Rattle.bb_terms.specs.Valid.{ValidValue}
 use Rattle.bb_written.specs.Written.{written}
 use Rattle.bb_forms.specs.declared.signature.Signature.{Signature}
 use Rattle.bb_audit.specs.Audited.{Audited}

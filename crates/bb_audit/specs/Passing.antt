@@ -1,7 +1,7 @@
 -- The rules of a whole self-test: those of its plan, and four on its certificate, its netlist and its signatures.
 use Rattle.std.specs.Prelude.{◌≡◌, ℕ}
-use Rattle.bb_rules.specs.Rules.{Rule, rule_number, Holds}
-use Rattle.bb_rules.specs.Valid.{ValidValue, IsValidFor}
+use Rattle.bb_terms.specs.Rules.{Rule, rule_number, Holds}
+use Rattle.bb_terms.specs.Valid.{ValidValue, IsValidFor}
 use Rattle.bb_written.specs.Written.{written}
 use Rattle.bb_normal.specs.Mirrors.{Mirrors}
 use Rattle.bb_audit.specs.Audited.{Audited}

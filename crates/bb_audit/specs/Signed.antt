@@ -1,8 +1,8 @@
 -- Signatures as a file lists them, session by session.
 use Rattle.std.specs.Prelude.{◌≡◌, ℕ, List, map}
-use Rattle.bb_netlist.specs.Net.{Netlist}
-use Rattle.bb_rules.specs.Plan.{PlanValue}
-use Rattle.bb_rules.specs.Signatures.{AreSignatures}
+use Rattle.bb_base.specs.Net.{Netlist}
+use Rattle.bb_terms.specs.Plan.{PlanValue}
+use Rattle.bb_terms.specs.Signatures.{AreSignatures}
 use Rattle.bb_forms.specs.declared.signature.Signature.{Signature}
 
 abbrev pub registers_of : List (List Signature) → List (List ℕ)

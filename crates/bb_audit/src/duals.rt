@@ -1,14 +1,14 @@
 //! The duals of a certificate.
 
 ghost use Rattle.std.specs.Prelude.{◌≡◌, ◌↔◌, ◌++◌, ◌≤◌, ◌<◌, ℕ, length, map, None, Some, IsTrue, OnOk, IfOk, slice_index};
-ghost use Rattle.bb_gf2.specs.Dual.{IsDual};
-ghost use Rattle.bb_rules.specs.Plan.{chain};
+ghost use Rattle.bb_base.specs.Dual.{IsDual};
+ghost use Rattle.bb_terms.specs.Plan.{chain};
 ghost use Rattle.bb_audit.specs.Certified.{HaveDuals, AllHaveDuals, IsFirstWithoutDuals};
 
 use crate::lines::state_count;
 use bb_forms::CertificateSegment;
 use bb_gf2::code_bit;
-use bb_rules::{Cell, Plan};
+use bb_terms::{Cell, Plan};
 use std::alloc::{AllocError, Global};
 
 /// Adds the columns of some cells.

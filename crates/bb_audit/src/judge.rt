@@ -2,9 +2,9 @@
 
 ghost use Rattle.std.specs.Prelude.{◌≡◌, ◌≤◌, ◌-◌, ◌^◌, ℕ, map, min, OnOk, IsErrOf};
 ghost use Rattle.bb_base.specs.Variables.{bit_count};
-ghost use Rattle.bb_netlist.specs.Order.{IsOrder};
+ghost use Rattle.bb_base.specs.Order.{IsOrder};
 ghost use Rattle.bb_ctl.specs.OwnNames.{HasOwnNames};
-ghost use Rattle.bb_rules.specs.Valid.{IsValidFor};
+ghost use Rattle.bb_terms.specs.Valid.{IsValidFor};
 ghost use Rattle.bb_audit.specs.Audited.{audited};
 ghost use Rattle.bb_audit.specs.Passing.{AuditPasses};
 ghost use Rattle.bb_audit.specs.Faults.{IsAuditFault};
@@ -18,7 +18,7 @@ use bb_forms::{Certificate, Signature};
 use bb_net::Named;
 use bb_netlist::Order;
 use bb_plan::validate;
-use bb_rules::{Plan, PlanFault, Valid};
+use bb_terms::{Plan, PlanFault, Valid};
 use bb_weave::weave;
 use std::alloc::Global;
 

@@ -1,7 +1,7 @@
 //! Laws, as contracts of functions without a body.
 
 ghost use Rattle.std.specs.Prelude.{◌≡◌, ℕ};
-ghost use Rattle.bb_net.specs.Named.{IsNamed};
+ghost use Rattle.bb_base.specs.Named.{IsNamed};
 ghost use Rattle.bb_ctl.specs.OwnNames.{HasOwnNames};
 ghost use Rattle.bb_selftest.specs.SelfTest.{IsSelfTest};
 ghost use Rattle.bb_audit.specs.Audited.{Audited};

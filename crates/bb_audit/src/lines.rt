@@ -4,7 +4,7 @@ ghost use Rattle.std.specs.Prelude.{◌≡◌, ◌↔◌, ◌≤◌, ◌^◌, �
 ghost use Rattle.bb_audit.specs.Certified.{line_cells, segment_cells, IsFirstApart};
 
 use bb_forms::{Certificate, CertificateSegment};
-use bb_rules::{Plan, Segment};
+use bb_terms::{Plan, Segment};
 
 /// Whether pairs begin with these cells, in order.
 fn have_cells(pairs: &[(u32, u32)], cells: &[u32]) -> bool

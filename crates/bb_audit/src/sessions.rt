@@ -1,16 +1,17 @@
 //! The signatures that a file lists.
 
 ghost use Rattle.std.specs.Prelude.{◌≡◌, ◌↔◌, ℕ, List, map, length, None, Some, IsTrue, IfOk};
-ghost use Rattle.bb_netlist.specs.Order.{IsOrder};
-ghost use Rattle.bb_rules.specs.Valid.{IsValidFor};
+ghost use Rattle.bb_base.specs.Order.{IsOrder};
+ghost use Rattle.bb_terms.specs.Valid.{IsValidFor};
 ghost use Rattle.bb_forms.specs.declared.signature.Signature.{Signature as SignatureValue};
 ghost use Rattle.bb_audit.specs.Certified.{IsFirstApart};
 ghost use Rattle.bb_audit.specs.Signed.{registers_of, values_of, AreSessionSignatures};
 
+use bb_base::Netlist;
 use bb_forms::Signature;
-use bb_netlist::{Netlist, Order};
-use bb_rules::{Session, Valid};
+use bb_netlist::Order;
 use bb_sign::signatures;
+use bb_terms::{Session, Valid};
 use std::alloc::{AllocError, Global};
 
 /// Whether signatures are of these registers, in order.

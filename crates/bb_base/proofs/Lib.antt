@@ -4,3 +4,8 @@ pub mod Distinct
 pub mod BooleanLemmas
 pub mod BitLemmas
 pub mod OwnNameLemmas
+pub mod TimesLemmas
+pub mod GateLemmas
+pub mod CycleLemmas
+pub mod Renamed
+pub mod DriverLemmas

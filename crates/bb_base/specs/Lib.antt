@@ -8,3 +8,16 @@ pub mod Keywords
 pub mod OwnNames
 pub mod Operators
 pub mod Variables
+pub mod Tokens
+pub mod Net
+pub mod Run
+pub mod Order
+pub mod Levels
+pub mod Drivers
+pub mod Faults
+pub mod Named
+pub mod Building
+pub mod Bits
+pub mod Dual
+pub mod Parity
+pub mod Span

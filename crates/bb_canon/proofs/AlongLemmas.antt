@@ -2,9 +2,9 @@
 use Rattle.std.proofs.Common.{◌≡◌, ℕ, ◌<◌, ◌-◌, ◌^◌, List, [], ◌∷◌, ◌++◌, length, Some, None, Bool, true, false, refl, sym, ap, ◌∙◌, arith, append_assoc, append-nil, subst, length-append, map}
 use Rattle.std.proofs.lemmas.List.Elements.{recursion_from_All}
 use Rattle.std.specs.List.{list_all, flat_map, AllByRecursion}
-use Rattle.bb_netlist.specs.Net.{Gate, Flop, driven, reads, HasArity}
+use Rattle.bb_base.specs.Net.{Gate, Flop, driven, reads, HasArity}
 use Rattle.bb_base.specs.Variables.{Entry}
-use Rattle.bb_net.specs.Named.{Named, IsNamed}
+use Rattle.bb_base.specs.Named.{Named, IsNamed}
 use Rattle.bb_base.proofs.Lists.{all_front, all_back, all_map, all_parts, length_map}
 use Rattle.bb_spell.specs.Canonical.{with_feed}
 use Rattle.bb_spell.specs.TextLines.{is_line_byte, first_line}

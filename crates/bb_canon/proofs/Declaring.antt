@@ -10,13 +10,13 @@ use Rattle.bb_base.specs.declared.variable.BitName.{BitName}
 use Rattle.std.specs.List.{list_all}
 use Rattle.std.proofs.lemmas.Option.{slice_get_within}
 use Rattle.bb_base.specs.declared.variable.Variable.{Variable}
-use Rattle.bb_netlist.specs.declared.fault.NetFault.{NetFault}
-use Rattle.bb_netlist.specs.declared.fault.NetFault.TheVariants.{Redeclared, TwoDrivers, Undriven, BadArity, TooMany, NoMemory}
-use Rattle.bb_net.specs.Building.{with_variable, clock_with, port_bits, MayClock, IsTooMany, net_limit}
-use Rattle.bb_netlist.specs.Faults.{IsVariableFault}
+use Rattle.bb_base.specs.declared.fault.NetFault.{NetFault}
+use Rattle.bb_base.specs.declared.fault.NetFault.TheVariants.{Redeclared, TwoDrivers, Undriven, BadArity, TooMany, NoMemory}
+use Rattle.bb_base.specs.Building.{with_variable, clock_with, port_bits, MayClock, IsTooMany, net_limit}
+use Rattle.bb_base.specs.Faults.{IsVariableFault}
 use Rattle.bb_net.proofs.VariableLemmas.{variable_fits, all_at}
 use Rattle.bb_base.specs.Variables.{Entry, IsEntry, Bit, IsBit, bit_of, bit_in, clock_place, is_input, is_port, role_bits}
-use Rattle.bb_net.specs.Named.{Named, IsClock, lookup_of}
+use Rattle.bb_base.specs.Named.{Named, IsClock, lookup_of}
 use Rattle.bb_canon.specs.Drafting.{indexed_place, may_come, canon_fault}
 use Rattle.bb_canon.specs.Faults.{IsWant}
 use Rattle.bb_canon.proofs.Drafts.{all_pass, lookup_entry}

@@ -3,7 +3,7 @@ use Rattle.std.proofs.Common.{◌≡◌, ℕ, List, map, Option, Some, None, Res
 use Rattle.std.specs.Option.{option_map, ForSome}
 use Rattle.bb_base.specs.declared.variable.BitName.{BitName}
 use Rattle.bb_base.specs.Variables.{Entry, bit_of, is_input, is_output, role_bits}
-use Rattle.bb_net.specs.Named.{Named, design_of, IsClock, net_text, name_of_net}
+use Rattle.bb_base.specs.Named.{Named, design_of, IsClock, net_text, name_of_net}
 use Rattle.bb_base.proofs.Lists.{map_twice}
 use Rattle.bb_spell.specs.Canonical.{canonical_text}
 use Rattle.bb_spell.specs.Limits.{IsNumbered}

@@ -12,8 +12,8 @@ use Rattle.bb_base.specs.Variables.{bit_eq}
 use Rattle.bb_base.proofs.BitLemmas.{same_bits, bit_eq_itself}
 use Rattle.bb_base.proofs.Distinct.{one_place}
 use Rattle.bb_base.proofs.Lists.{all_join}
-use Rattle.bb_netlist.specs.Net.{times}
-use Rattle.bb_netlist.proofs.TimesLemmas.{times_head}
+use Rattle.bb_base.specs.Net.{times}
+use Rattle.bb_base.proofs.TimesLemmas.{times_head}
 
 bit_eq_turn : (a b : BitName) → bit_eq a b ≡ bit_eq b a
 bit_eq_turn a b = grind (arith, nat_tests)

@@ -10,7 +10,7 @@ use Rattle.std.proofs.lemmas.List.Elements.{All-from_recursion, All-weaker, All-
 use Rattle.bb_base.specs.declared.variable.Variable.{Variable}
 use Rattle.bb_base.specs.declared.variable.BitName.{BitName}
 use Rattle.bb_base.specs.Variables.{Entry, IsBit, range_width}
-use Rattle.bb_net.specs.Named.{Named, lookup_of}
+use Rattle.bb_base.specs.Named.{Named, lookup_of}
 
 pub names_within : (names : List BitName) (net : ℕ) (bit : BitName) → slice_get names net ≡ Some bit → net < length names
 names_within names net bit h = slice_get_within names net bit h

@@ -9,15 +9,15 @@ use Rattle.std.proofs.lemmas.List.{get_or-map, take_all}
 use Rattle.std.proofs.Math.Seq.{take-suc}
 use Rattle.std.proofs.lemmas.Bool.Decides.{nat_tests}
 use Rattle.bb_base.proofs.Lists.{length_map, map_join, same_map_at}
-use Rattle.bb_netlist.specs.declared.fault.NetFault.{NetFault}
-use Rattle.bb_netlist.specs.declared.fault.NetFault.TheVariants.{Redeclared, TwoDrivers, Undriven, BadArity, TooMany, NoMemory}
+use Rattle.bb_base.specs.declared.fault.NetFault.{NetFault}
+use Rattle.bb_base.specs.declared.fault.NetFault.TheVariants.{Redeclared, TwoDrivers, Undriven, BadArity, TooMany, NoMemory}
 use Rattle.bb_base.specs.declared.variable.BitName.{BitName}
-use Rattle.bb_netlist.specs.Net.{Gate, Flop, driven, times}
+use Rattle.bb_base.specs.Net.{Gate, Flop, driven, times}
 use Rattle.bb_base.specs.Operators.{IsArity}
 use Rattle.bb_base.specs.Variables.{Bit, IsBit, bit_of}
-use Rattle.bb_net.specs.Named.{Named, name_of_net, net_text}
-use Rattle.bb_net.specs.Building.{with_net, with_gate, with_flop, net_limit}
-use Rattle.bb_netlist.specs.Faults.{IsNetCallFault, IsGateFault, IsFinishFault}
+use Rattle.bb_base.specs.Named.{Named, name_of_net, net_text}
+use Rattle.bb_base.specs.Building.{with_net, with_gate, with_flop, net_limit}
+use Rattle.bb_base.specs.Faults.{IsNetCallFault, IsGateFault, IsFinishFault}
 use Rattle.bb_base.specs.Firsts.{IsFirst}
 use Rattle.bb_base.specs.declared.operator.Op.{Op}
 use Rattle.bb_canon.specs.Drafting.{named_bit, canon_fault}

@@ -7,11 +7,11 @@ use Rattle.std.proofs.lemmas.List.{append-nil}
 use Rattle.std.proofs.lemmas.Option.{slice_get_within}
 use Rattle.std.proofs.lemmas.Bool.Decides.{nat_tests}
 use Rattle.bb_base.specs.declared.variable.BitName.{BitName}
-use Rattle.bb_netlist.specs.Net.{Gate, Flop, driven, reads, times, renamed_gate, renamed_flop}
+use Rattle.bb_base.specs.Net.{Gate, Flop, driven, reads, times, renamed_gate, renamed_flop}
 use Rattle.bb_base.specs.Operators.{IsArity}
 use Rattle.bb_base.specs.Variables.{Entry, IsBit, is_input, is_port, role_bits, bit_eq}
-use Rattle.bb_net.specs.Named.{Named, IsNamed, IsConsistent, name_of_net, IsClock}
-use Rattle.bb_net.specs.Building.{with_net, with_gate, with_flop, net_limit}
+use Rattle.bb_base.specs.Named.{Named, IsNamed, IsConsistent, name_of_net, IsClock}
+use Rattle.bb_base.specs.Building.{with_net, with_gate, with_flop, net_limit}
 use Rattle.bb_base.proofs.Lists.{all_front, all_back, all_join, all_map, all_parts, map_join, map_twice, length_map, same_map_at}
 use Rattle.bb_net.proofs.ConsistentLemmas.{net_fits, gate_fits, flop_fits}
 use Rattle.bb_spell.specs.Limits.{IsBuildable}

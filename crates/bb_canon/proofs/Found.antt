@@ -9,7 +9,7 @@ use Rattle.std.proofs.lemmas.Bool.Decides.{nat_tests}
 use Rattle.bb_base.specs.declared.variable.BitName.{BitName}
 use Rattle.bb_base.specs.Variables.{Entry, IsBit, bit_of, bit_in, bit_at, range_width}
 use Rattle.bb_base.specs.Variables as bits
-use Rattle.bb_net.specs.Named.{Named, lookup_of}
+use Rattle.bb_base.specs.Named.{Named, lookup_of}
 use Rattle.bb_spell.specs.Front.{◌>>=◌}
 use Rattle.bb_canon.specs.Drafting.{index_place, indexed_place, named_bit}
 use Rattle.bb_canon.proofs.Drafts.{lookup_entry}

@@ -2,12 +2,12 @@
 use Rattle.std.proofs.Common.{◌≡◌, ℕ, List, map, Option, Some, None, Bool, true, false, refl, sym, ap, ◌∙◌, arith, subst, nat_lt, if◌then◌else◌}
 use Rattle.std.proofs.lemmas.Bool.Decides.{nat_tests}
 use Rattle.std.specs.Option.{option_map}
-use Rattle.bb_netlist.specs.Net.{Gate, Flop, renamed_gate, renamed_flop}
+use Rattle.bb_base.specs.Net.{Gate, Flop, renamed_gate, renamed_flop}
 use Rattle.bb_base.specs.declared.variable.BitName.{BitName}
 use Rattle.bb_base.specs.Variables.{bit_of, role_bits, is_input, is_output, Entry}
 use Rattle.bb_base.specs.Name.{IsName}
-use Rattle.bb_net.specs.Named.{Named, IsNamed, design_of, net_text, name_of_net}
-use Rattle.bb_net.specs.Building.{started}
+use Rattle.bb_base.specs.Named.{Named, IsNamed, design_of, net_text, name_of_net}
+use Rattle.bb_base.specs.Building.{started}
 use Rattle.bb_base.proofs.Lists.{map_twice, same_map}
 use Rattle.bb_net.proofs.ConsistentLemmas.{started_fits}
 use Rattle.bb_canon.specs.Toward.{IsDrawn, IsDeclared, clock_among}

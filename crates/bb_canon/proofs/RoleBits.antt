@@ -8,10 +8,10 @@ use Rattle.bb_base.specs.declared.variable.Role.{Role}
 use Rattle.bb_base.specs.declared.variable.Role.TheVariants.{Input, Output, Wire}
 use Rattle.bb_base.specs.declared.variable.Variable.{Variable}
 use Rattle.bb_base.specs.declared.variable.BitName.{BitName}
-use Rattle.bb_netlist.specs.Net.{driven, reads}
+use Rattle.bb_base.specs.Net.{driven, reads}
 use Rattle.bb_base.specs.Variables.{Entry, is_port, is_input, is_output, range_width, clock_place, places_but, bit_at, data_bits, role_bits, bit_eq}
-use Rattle.bb_net.specs.Named.{Named, IsNamed, name_of_net}
-use Rattle.bb_net.specs.Building.{clock_with, port_bits}
+use Rattle.bb_base.specs.Named.{Named, IsNamed, name_of_net}
+use Rattle.bb_base.specs.Building.{clock_with, port_bits}
 use Rattle.bb_base.proofs.Lists.{all_front, all_back, all_join, all_map_back}
 use Rattle.bb_canon.specs.Toward.{clock_among}
 use Rattle.bb_canon.proofs.Distincts.{apart_bits, distinct_join}

@@ -5,9 +5,9 @@ use Rattle.bb_base.specs.declared.operator.Op.{Op}
 use Rattle.bb_base.specs.declared.operator.Op.TheVariants.{And, Nand, Or, Nor, Xor, Xnor, Not, Buf, Zero, One}
 use Rattle.bb_base.specs.declared.variable.Role.{Role}
 use Rattle.bb_base.specs.declared.variable.Role.TheVariants.{Input, Output, Wire}
-use Rattle.bb_netlist.specs.Net.{Gate, Flop}
+use Rattle.bb_base.specs.Net.{Gate, Flop}
 use Rattle.bb_base.specs.Variables.{Entry, Bit, IsEntry}
-use Rattle.bb_net.specs.Named.{Design}
+use Rattle.bb_base.specs.Named.{Design}
 use Rattle.bb_spell.specs.Spelling.{module_line, declaration, statement_by, gate_line, flop_line}
 use Rattle.bb_spell.specs.Canonical.{port_names, flop_lines, with_feed, canonical_text}
 use Rattle.bb_spell.specs.Front.{index_limit}

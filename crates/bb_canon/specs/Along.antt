@@ -2,9 +2,9 @@
 use Rattle.std.specs.Prelude.{◌≡◌, ℕ, Bool, true, false, None, List, [], ◌∷◌, ◌++◌, Option, Some}
 use Rattle.std.specs.List.{list_all, flat_map}
 use Rattle.std.specs.Option.{option_map}
-use Rattle.bb_netlist.specs.Net.{Gate, Flop, renamed_gate, renamed_flop}
+use Rattle.bb_base.specs.Net.{Gate, Flop, renamed_gate, renamed_flop}
 use Rattle.bb_base.specs.Variables.{Entry, Bit, bit_of}
-use Rattle.bb_net.specs.Named.{Named, net_text}
+use Rattle.bb_base.specs.Named.{Named, net_text}
 use Rattle.bb_spell.specs.Canonical.{with_feed}
 use Rattle.bb_spell.specs.TextLines.{is_line_byte}
 use Rattle.bb_canon.specs.Sections.{declares, states_gate, clocks, NoneFirst}

@@ -1,11 +1,11 @@
 -- What texts name in a netlist that is being read. No public contract cites this.
 use Rattle.std.specs.Prelude.{ℕ, ◌-◌, ◌&&◌, Bool, false, not, nat_le, nat_lt, length, Option, Some, None, slice_get, if◌then◌else◌}
 use Rattle.std.specs.List.{list_all}
-use Rattle.bb_netlist.specs.declared.fault.NetFault.{NetFault}
-use Rattle.bb_netlist.specs.declared.fault.NetFault.TheVariants.{Redeclared, TwoDrivers, Undriven, BadArity, TooMany, NoMemory}
+use Rattle.bb_base.specs.declared.fault.NetFault.{NetFault}
+use Rattle.bb_base.specs.declared.fault.NetFault.TheVariants.{Redeclared, TwoDrivers, Undriven, BadArity, TooMany, NoMemory}
 use Rattle.bb_base.specs.declared.variable.BitName.{BitName}
 use Rattle.bb_base.specs.Variables.{Bit, bit_at, is_port}
-use Rattle.bb_net.specs.Named.{Named, lookup_of}
+use Rattle.bb_base.specs.Named.{Named, lookup_of}
 use Rattle.bb_spell.specs.Front.{◌>>=◌}
 use Rattle.bb_canon.specs.declared.draft.CanonFault.{CanonFault}
 use Rattle.bb_canon.specs.declared.draft.CanonFault.TheVariants as Canon

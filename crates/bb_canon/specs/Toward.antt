@@ -2,9 +2,9 @@
 use Rattle.std.specs.Prelude.{◌≡◌, ◌≢◌, ℕ, ◌<◌, nat_lt, List, [], ◌++◌, length, map, AllPairs, Contains, Option, None, Some, if◌then◌else◌}
 use Rattle.std.specs.List.{AllByRecursion}
 use Rattle.bb_base.specs.declared.variable.BitName.{BitName}
-use Rattle.bb_netlist.specs.Net.{Gate, Flop, renamed_gate, renamed_flop, HasArity}
+use Rattle.bb_base.specs.Net.{Gate, Flop, renamed_gate, renamed_flop, HasArity}
 use Rattle.bb_base.specs.Variables.{Entry, is_port, role_bits}
-use Rattle.bb_net.specs.Named.{Named, IsConsistent, name_of_net}
+use Rattle.bb_base.specs.Named.{Named, IsConsistent, name_of_net}
 
 -- n has the variables of a, nets of a with no two alike, and these gates and flip-flops of a, under the same names
 pub record IsDrawn (a n : Named) (gates : List (Gate ℕ)) (flops : List (Flop ℕ)) : Type 0 where

@@ -2,17 +2,17 @@ ghost use Rattle.std.specs.Prelude.{◌≡◌, ◌<◌, ◌≤◌, ◌+◌, ◌-
 ghost use Rattle.std.specs.Option.{ForSome, option_map};
 ghost use Rattle.std.specs.List.{list_all, AllByRecursion};
 ghost use Rattle.bb_base.specs.Variables.{IsBit, bit_of, IsRange, range_width, is_port, clock_place as place_of_clock, Entry};
-ghost use Rattle.bb_netlist.specs.Net.{Gate, Flop, renamed_gate, renamed_flop};
-ghost use Rattle.bb_net.specs.Named.{Named as NamedValue, name_of_net, net_text};
-ghost use Rattle.bb_net.specs.Building.{started, MayClock, clock_with};
+ghost use Rattle.bb_base.specs.Net.{Gate, Flop, renamed_gate, renamed_flop};
+ghost use Rattle.bb_base.specs.Named.{Named as NamedValue, name_of_net, net_text};
+ghost use Rattle.bb_base.specs.Building.{started, MayClock, clock_with};
 ghost use Rattle.bb_canon.specs.Faults.{NamesNoLine, IsWant};
 ghost use Rattle.bb_spell.specs.Limits.{IsBuildable};
 ghost use Rattle.bb_canon.specs.Toward.{IsDrawn, IsGateOf, IsFlopOf, IsDeclared};
 ghost use Rattle.bb_canon.specs.Drafting.{index_place, indexed_place, named_bit, canon_fault, may_come};
 
-use bb_base::is_port_role;
+use bb_base::{BitName, Name, NetFault, NetId, Role, Variable, is_port_role};
 use bb_lines::{Instance, Statement};
-use bb_net::{BitName, Builder, Name, Named, NetFault, NetId, Role, Variable};
+use bb_net::{Builder, Named};
 use bb_spell::BitText;
 use std::alloc::{AllocError, AllocFailed, Global};
 use std::marker::Model;
@@ -118,7 +118,7 @@ impl Model for Draft {
     ghost use Rattle.std.specs.Prelude.{◌≡◌, map, length};
     ghost use Rattle.std.specs.List.{list_all};
     ghost use Rattle.bb_base.specs.Variables.{is_port};
-    ghost use Rattle.bb_net.specs.Named.{Named as NamedValue};
+    ghost use Rattle.bb_base.specs.Named.{Named as NamedValue};
 
     ghost Value = { NamedValue };
 

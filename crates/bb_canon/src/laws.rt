@@ -1,7 +1,7 @@
 //! A law about canonical texts, as the contract of a function without a body.
 
 ghost use Rattle.std.specs.Prelude.{◌≡◌};
-ghost use Rattle.bb_net.specs.Named.{Named, design_of};
+ghost use Rattle.bb_base.specs.Named.{Named, design_of};
 ghost use Rattle.bb_spell.specs.Canonical.{canonical_text};
 ghost use Rattle.bb_spell.specs.Limits.{IsNumbered};
 

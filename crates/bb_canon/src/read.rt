@@ -1,12 +1,12 @@
 ghost use Rattle.std.specs.Prelude.{◌++◌, List, ℕ, Option, Some, IsSome, IsOk, IfErr, IsErrOf, None, codes, ◌≡◌, ◌≢◌, ◌<◌, length, IfOk, OnOk, false, [], ◌∷◌, ◌-◌, ◌^◌};
-ghost use Rattle.bb_net.specs.Named.{Named as NamedValue, design_of};
+ghost use Rattle.bb_base.specs.Named.{Named as NamedValue, design_of};
 ghost use Rattle.std.specs.List.{flat_map};
 ghost use Rattle.bb_spell.specs.Canonical.{canonical_text, with_feed};
 ghost use Rattle.bb_canon.specs.Faults.{NamesNoLine, IsMemory, IsWant};
 ghost use Rattle.bb_spell.specs.Limits.{IsBuildable, IsNumbered};
 ghost use Rattle.bb_canon.specs.Toward.{IsDrawn, IsDeclared, IsGateOf, IsFlopOf};
 ghost use Rattle.bb_canon.specs.Along.{SaysVariable, SaysGate, SaysFlop, VariablesLeft, GatesLeft, FlopsLeft, ClockLeft, clock_text};
-ghost use Rattle.bb_netlist.specs.Net.{Gate, Flop};
+ghost use Rattle.bb_base.specs.Net.{Gate, Flop};
 ghost use Rattle.bb_base.specs.Variables.{Entry};
 ghost use Rattle.bb_spell.specs.Front.{begins_with};
 ghost use Rattle.bb_spell.specs.TextLines.{first_line};
@@ -16,10 +16,11 @@ ghost use Rattle.bb_lines.specs.Places.{bad_line};
 ghost use Rattle.bb_lines.specs.Forms.{IsBadLine, IsAllRight};
 
 use crate::draft::{CanonFault, Draft};
+use bb_base::Name;
 use bb_lines::{
     Instance, bad_line, read_declaration, read_flop, read_module, read_statement, word_role,
 };
-use bb_net::{Name, Named};
+use bb_net::Named;
 use bb_spell::{BitText, LineFault, append_text, begins_with, next_line, word_at};
 use std::alloc::Global;
 

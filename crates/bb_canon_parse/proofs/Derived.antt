@@ -4,18 +4,18 @@ use Rattle.std.proofs.lemmas.List.{append-nil}
 use Rattle.std.specs.Option.{option_map}
 use Rattle.bb_base.specs.declared.keyword.Keyword.{Keyword}
 use Rattle.bb_base.specs.declared.keyword.Keyword.TheVariants as keys
-use Rattle.bb_lex.specs.declared.token.Mark.TheVariants as marks
-use Rattle.bb_lex.specs.declared.token.Token.{Token}
-use Rattle.bb_lex.specs.declared.token.TokenKind.{TokenKind}
-use Rattle.bb_lex.specs.declared.token.TokenKind.TheVariants.{Key, Name, Const, Mark}
+use Rattle.bb_base.specs.declared.token.Mark.TheVariants as marks
+use Rattle.bb_base.specs.declared.token.Token.{Token}
+use Rattle.bb_base.specs.declared.token.TokenKind.{TokenKind}
+use Rattle.bb_base.specs.declared.token.TokenKind.TheVariants.{Key, Name, Const, Mark}
 use Rattle.bb_lex.specs.Text as lexical
 use Rattle.bb_base.specs.declared.operator.Op.{Op}
 use Rattle.bb_base.specs.declared.operator.Op.TheVariants.{And, Nand, Or, Nor, Xor, Xnor, Not, Buf, Zero, One}
 use Rattle.bb_base.specs.declared.variable.Role.{Role}
 use Rattle.bb_base.specs.declared.variable.Role.TheVariants.{Input, Output, Wire}
-use Rattle.bb_netlist.specs.Net.{Gate, Flop}
+use Rattle.bb_base.specs.Net.{Gate, Flop}
 use Rattle.bb_base.specs.Variables.{Entry, Bit}
-use Rattle.bb_net.specs.Named.{Design}
+use Rattle.bb_base.specs.Named.{Design}
 use Rattle.bb_parse.specs.Spans.{Span, ◌⨾◌, nothing, word_at, key, mark, name, many}
 use Rattle.bb_parse.specs.Trees as trees
 use Rattle.bb_parse.specs.Grammar as grammar
@@ -26,7 +26,7 @@ use Rattle.bb_parse.specs.declared.syntax.Conns.TheVariants as conns
 use Rattle.bb_parse.specs.declared.syntax.Header.TheVariants as headers
 use Rattle.bb_parse.specs.declared.syntax.Step.TheVariants as steps
 use Rattle.bb_spell.specs.Canonical.{port_names, canonical_text}
-use Rattle.bb_parse.specs.Texts.{IsModuleOf}
+use Rattle.bb_grammar.specs.Texts.{IsModuleOf}
 use Rattle.bb_canon_parse.specs.Printed as printed
 use Rattle.bb_spell.specs.Writable.{IsText}
 use Rattle.bb_canon_parse.proofs.Lined.{text_lexed}

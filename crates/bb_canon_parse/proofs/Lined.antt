@@ -3,13 +3,13 @@ use Rattle.std.proofs.Common.{◌≡◌, ℕ, ◌+◌, ◌≤◌, List, [], ◌�
 use Rattle.std.proofs.lemmas.List.{append-nil}
 use Rattle.std.proofs.lemmas.Bool.Decides.{nat_tests}
 use Rattle.std.specs.List.{AllByRecursion, flat_map, list_all}
-use Rattle.bb_lex.specs.declared.token.Token.{Token}
-use Rattle.bb_lex.specs.declared.token.TokenKind.{TokenKind}
+use Rattle.bb_base.specs.declared.token.Token.{Token}
+use Rattle.bb_base.specs.declared.token.TokenKind.{TokenKind}
 use Rattle.bb_lex.specs.Bytes.{feed, feeds, class_of}
 use Rattle.bb_lex.specs.Text.{Lexeme, Blank, spelling, text_of, Each, kind_of, tokens_by, tokens_of, feeds_of, number, Denotes}
-use Rattle.bb_netlist.specs.Net.{Flop}
+use Rattle.bb_base.specs.Net.{Flop}
 use Rattle.bb_base.specs.Variables.{Bit, IsEntry}
-use Rattle.bb_net.specs.Named.{Design}
+use Rattle.bb_base.specs.Named.{Design}
 use Rattle.bb_spell.specs.Spelling.{module_line, declaration, gate_line, flop_line}
 use Rattle.bb_spell.specs.Canonical.{port_names, flop_lines, canonical_text, with_feed}
 use Rattle.bb_spell.specs.Front.{index_limit}

@@ -5,9 +5,9 @@ use Rattle.std.proofs.lemmas.List.Elements.{recursion_from_All}
 use Rattle.std.proofs.lemmas.Fmt.{decimal_nonempty}
 use Rattle.std.specs.List.{AllByRecursion, list_all}
 use Rattle.std.specs.Char.{is_ascii_digit}
-use Rattle.bb_lex.specs.declared.token.Mark.TheVariants as marks
-use Rattle.bb_lex.specs.declared.token.TokenKind.{TokenKind}
-use Rattle.bb_lex.specs.declared.token.TokenKind.TheVariants.{Name, Number, Const, Mark}
+use Rattle.bb_base.specs.declared.token.Mark.TheVariants as marks
+use Rattle.bb_base.specs.declared.token.TokenKind.{TokenKind}
+use Rattle.bb_base.specs.declared.token.TokenKind.TheVariants.{Name, Number, Const, Mark}
 use Rattle.bb_lex.specs.Bytes.{between, class_of, is_number, is_constant, is_odd, base_of, digit_of, value, AllOf, begins}
 use Rattle.bb_base.specs.Keywords.{keyword_of, is_keyword}
 use Rattle.bb_lex.specs.Keywords.{word_kind}

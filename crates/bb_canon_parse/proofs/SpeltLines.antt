@@ -6,9 +6,9 @@ use Rattle.std.proofs.lemmas.Fmt.{length-decimal-le}
 use Rattle.std.specs.Char.{is_ascii_digit}
 use Rattle.bb_base.specs.declared.keyword.Keyword.{Keyword}
 use Rattle.bb_base.specs.declared.keyword.Keyword.TheVariants as keys
-use Rattle.bb_lex.specs.declared.token.Mark.TheVariants as marks
-use Rattle.bb_lex.specs.declared.token.TokenKind.{TokenKind}
-use Rattle.bb_lex.specs.declared.token.TokenKind.TheVariants.{Key, Name, Number, Const, Mark}
+use Rattle.bb_base.specs.declared.token.Mark.TheVariants as marks
+use Rattle.bb_base.specs.declared.token.TokenKind.{TokenKind}
+use Rattle.bb_base.specs.declared.token.TokenKind.TheVariants.{Key, Name, Number, Const, Mark}
 use Rattle.bb_lex.specs.Bytes.{is_number, begins}
 use Rattle.bb_base.specs.Keywords.{keyword_of, is_keyword}
 use Rattle.bb_lex.specs.Keywords.{word_kind}
@@ -17,7 +17,7 @@ use Rattle.bb_base.specs.declared.operator.Op.TheVariants.{And, Nand, Or, Nor, X
 use Rattle.bb_base.specs.declared.variable.Role.{Role}
 use Rattle.bb_base.specs.declared.variable.Role.TheVariants.{Input, Output, Wire}
 use Rattle.bb_base.specs.Name.{IsName}
-use Rattle.bb_netlist.specs.Net.{Gate, Flop}
+use Rattle.bb_base.specs.Net.{Gate, Flop}
 use Rattle.bb_base.specs.Variables.{Entry, Bit, IsEntry, IsRange}
 use Rattle.bb_base.specs.Words.{starts_word, is_word_byte}
 use Rattle.bb_spell.specs.Spelling.{is_simple, stands_plain, spelled_name, spelled_index, spelled_bit, further, joined, module_line, role_word, spelled_range, declaration, op_word, constant_line, primitive_line, statement_by, gate_line, flop_line}

@@ -1,9 +1,9 @@
 -- Spans of the grammar, by the kinds of the tokens that they take.
 use Rattle.std.proofs.Common.{◌≡◌, ℕ, List, [], ◌∷◌, ◌++◌, map, Option, Some, None, refl, sym, ap, ◌∙◌, append_assoc, subst}
-use Rattle.bb_lex.specs.declared.token.Mark.TheVariants as marks
-use Rattle.bb_lex.specs.declared.token.Token.{Token}
-use Rattle.bb_lex.specs.declared.token.TokenKind.{TokenKind}
-use Rattle.bb_lex.specs.declared.token.TokenKind.TheVariants.{Name, Number, Mark}
+use Rattle.bb_base.specs.declared.token.Mark.TheVariants as marks
+use Rattle.bb_base.specs.declared.token.Token.{Token}
+use Rattle.bb_base.specs.declared.token.TokenKind.{TokenKind}
+use Rattle.bb_base.specs.declared.token.TokenKind.TheVariants.{Name, Number, Mark}
 use Rattle.bb_base.specs.Variables.{Bit}
 use Rattle.bb_parse.specs.Spans.{Span, ◌⨾◌, nothing, such, word, mark, name, number}
 use Rattle.bb_parse.specs.Trees as trees

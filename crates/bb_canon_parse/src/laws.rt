@@ -1,7 +1,7 @@
 //! A law about canonical texts, as the contract of a function without a body.
 
-ghost use Rattle.bb_net.specs.Named.{Named, design_of};
-ghost use Rattle.bb_parse.specs.Texts.{IsModuleOf};
+ghost use Rattle.bb_base.specs.Named.{Named, design_of};
+ghost use Rattle.bb_grammar.specs.Texts.{IsModuleOf};
 ghost use Rattle.bb_spell.specs.Canonical.{canonical_text};
 ghost use Rattle.bb_spell.specs.Limits.{IsNumbered};
 ghost use Rattle.bb_canon_parse.specs.Printed.{spelled_module};

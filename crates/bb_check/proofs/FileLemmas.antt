@@ -3,9 +3,9 @@ use Rattle.std.proofs.Common.{◌≡◌, inl, inr, ℕ, ◌≤◌, List, ◌∷�
 use Rattle.std.specs.Prelude.{Result, OnOk}
 use Rattle.bb_edge.specs.Causes.{Rose}
 use Rattle.bb_edge.specs.Told.{Told}
-use Rattle.bb_net.specs.Named.{Named}
+use Rattle.bb_base.specs.Named.{Named}
 use Rattle.bb_words.specs.Commands.{files_of}
-use Rattle.bb_rules.specs.Plan.{PlanValue}
+use Rattle.bb_terms.specs.Plan.{PlanValue}
 use Rattle.bb_selftest.specs.SelfTest.{IsSelfTest}
 use Rattle.bb_forms.specs.declared.signature.Signature.{Signature}
 use Rattle.bb_forms.specs.ScheduleText.{AreScheduleLines}

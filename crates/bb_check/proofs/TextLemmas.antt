@@ -3,9 +3,9 @@ use Rattle.std.proofs.Common.{arith, ◌≡◌, ℕ, ◌≤◌, Bool, true, fals
 use Rattle.std.specs.Prelude.{Result}
 use Rattle.bb_edge.specs.Told.{Told}
 use Rattle.bb_words.specs.Commands.{files_of}
-use Rattle.bb_net.specs.Named.{Named, IsNamed}
-use Rattle.bb_elab.specs.Denotes.{ElaboratesTo}
-use Rattle.bb_rules.specs.Plan.{PlanValue}
+use Rattle.bb_base.specs.Named.{Named, IsNamed}
+use Rattle.bb_meaning.specs.Denotes.{ElaboratesTo}
+use Rattle.bb_terms.specs.Plan.{PlanValue}
 use Rattle.bb_forms.specs.declared.signature.Signature.{Signature}
 use Rattle.bb_forms.specs.Forms.{IsFirstUnformed}
 use Rattle.bb_forms.specs.ScheduleText.{IsFormedPlan, AreScheduleLines, schedule_text}

@@ -1,7 +1,7 @@
 -- Texts of a netlist and of the four files of its self-test, and which of them pass (this project's own).
 use Rattle.std.specs.Prelude.{◌≡◌, ℕ, ◌≤◌, true, false, List, length, Ok}
-use Rattle.bb_net.specs.Named.{Named}
-use Rattle.bb_rules.specs.Plan.{PlanValue}
+use Rattle.bb_base.specs.Named.{Named}
+use Rattle.bb_terms.specs.Plan.{PlanValue}
 use Rattle.bb_forms.specs.declared.signature.Signature.{Signature}
 use Rattle.bb_forms.specs.ScheduleText.{IsFormedPlan, schedule_text}
 use Rattle.bb_forms.specs.SignatureText.{AreFormedSignatures, signature_text}

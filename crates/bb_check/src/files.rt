@@ -3,8 +3,8 @@
 ghost use Rattle.std.specs.Prelude.{◌≡◌, ◌≤◌, ◌++◌, ◌∷◌, map, ℕ, List, codes, OnOk, IsErrOf};
 ghost use Rattle.std.specs.List.{AllByRecursion};
 ghost use Rattle.bb_edge.specs.Causes.{Rose};
-ghost use Rattle.bb_netlist.specs.Order.{IsOrder};
-ghost use Rattle.bb_ready.specs.Ready.{IsReady};
+ghost use Rattle.bb_base.specs.Order.{IsOrder};
+ghost use Rattle.bb_named.specs.Ready.{IsReady};
 ghost use Rattle.bb_selftest.specs.SelfTest.{IsSelfTest};
 ghost use Rattle.bb_words.specs.Commands.{files_of};
 ghost use Rattle.bb_audit.specs.Audited.{Audited, audited};
@@ -22,9 +22,10 @@ use crate::netlists::{read_input, read_netlist};
 use bb_audit::{AuditFault, audit, passing_is_good};
 use bb_edge::Store;
 use bb_forms::{Certificate, Signature};
-use bb_net::{Named, Order};
-use bb_rules::Plan;
+use bb_net::Named;
+use bb_netlist::Order;
 use bb_say::{Refusal, Stop};
+use bb_terms::Plan;
 use std::alloc::Global;
 
 /// Whether the files meet all rules.

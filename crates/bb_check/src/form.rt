@@ -18,8 +18,8 @@ use bb_forms::{
     Certificate, FormFault, Signature, read_certificate, read_schedule, read_signatures,
 };
 use bb_read::{ReadFault, read_whole};
-use bb_rules::Plan;
 use bb_say::{FormRefusal, Refusal, Stop};
+use bb_terms::Plan;
 use std::alloc::Global;
 
 /// The text of a file of the prefix. `too_long` is the refusal of one that has more bytes than are read.

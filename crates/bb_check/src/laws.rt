@@ -12,8 +12,7 @@ ghost use Rattle.bb_check.specs.Told.{read_for, HoldTexts, AreFilesOf};
 
 use bb_audit::{one_audit, passing_is_good};
 use bb_forms::{one_certificate, one_list, one_plan};
-use bb_named::{one_end_of, read_netlists_are_named};
-use bb_ready::read_netlists_are_ready;
+use bb_named::{one_end_of, read_netlists_are_named, read_netlists_are_ready};
 
 /// Texts of files that meet every rule pass, whoever wrote them.
 pub fn audit_is_enough()

@@ -2,8 +2,8 @@
 
 ghost use Rattle.std.specs.Prelude.{◌≡◌, ◌≤◌, ◌++◌, codes, true, false, IfOk, IsErrOf};
 ghost use Rattle.bb_edge.specs.Causes.{Rose};
-ghost use Rattle.bb_netlist.specs.Order.{IsOrder};
-ghost use Rattle.bb_ready.specs.Ready.{IsReady};
+ghost use Rattle.bb_base.specs.Order.{IsOrder};
+ghost use Rattle.bb_named.specs.Ready.{IsReady};
 ghost use Rattle.bb_say.specs.declared.refusal.Refusal.{Refusal as RefusalValue};
 ghost use Rattle.bb_say.specs.declared.refusal.TextRefusal.{TextRefusal as TextRefusalValue};
 ghost use Rattle.bb_named.specs.Texts.{file_limit, output_limit, IsTextRefused};
@@ -12,7 +12,8 @@ ghost use Rattle.bb_check.specs.Told.{Tells};
 
 use bb_edge::Store;
 use bb_named::{FILE_LIMIT, NamedFault, read_named};
-use bb_net::{Named, Order};
+use bb_net::Named;
+use bb_netlist::Order;
 use bb_say::{Refusal, Stop};
 use std::alloc::Global;
 

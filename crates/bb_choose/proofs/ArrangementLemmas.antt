@@ -1,13 +1,13 @@
 -- The registers of a netlist are chosen in one way: cuts, the cells with them and the leaves of their lines are one each.
 use Rattle.std.proofs.Common.{◌≡◌, ◌↔◌, ℕ, Bool, true, false, List, [], ◌∷◌, refl, sym, ap, subst, ◌∙◌}
 use Rattle.std.specs.List.{AllZip}
-use Rattle.bb_netlist.specs.Net.{Netlist, IsNetlist}
-use Rattle.bb_segment.specs.Paths.{AtNet, IsLeaf}
-use Rattle.bb_segment.specs.Support.{AreLeaves}
-use Rattle.bb_segment.specs.Cuts.{is_stop_with}
+use Rattle.bb_base.specs.Net.{Netlist, IsNetlist}
+use Rattle.bb_terms.specs.Paths.{AtNet, IsLeaf}
+use Rattle.bb_terms.specs.Support.{AreLeaves}
+use Rattle.bb_terms.specs.Cuts.{is_stop_with}
 use Rattle.bb_segment.proofs.CutLemmas.{one_choice}
 use Rattle.bb_segment.proofs.SupportLemmas.{one_support}
-use Rattle.bb_rules.specs.declared.plan.Cell.{Cell}
+use Rattle.bb_terms.specs.declared.plan.Cell.{Cell}
 use Rattle.bb_rules.proofs.CodeLemmas.{one_start}
 use Rattle.bb_reg.specs.Draft.{DraftValue, AreCells, HasLeavesWith, source_cells, observer_cells}
 use Rattle.bb_reg.specs.Chosen.{GroupedValue, grouped_of}

@@ -7,9 +7,9 @@ use Rattle.bb_base.proofs.Contained.{of_all, to_all, place_of, contains_at}
 use Rattle.bb_base.proofs.Lists.{all_map_back, length_map, get_some}
 use Rattle.bb_segment.proofs.SetLemmas.{distinct_of, up_apart}
 use Rattle.bb_code.specs.Segments.{IsSegment}
-use Rattle.bb_rules.specs.declared.plan.Cell.{Cell}
-use Rattle.bb_rules.specs.Kinds.{is_source}
-use Rattle.bb_rules.specs.Plan.{RegisterValue}
+use Rattle.bb_terms.specs.declared.plan.Cell.{Cell}
+use Rattle.bb_terms.specs.Kinds.{is_source}
+use Rattle.bb_terms.specs.Plan.{RegisterValue}
 use Rattle.bb_reg.specs.Chosen.{GroupedValue}
 use Rattle.bb_choose.specs.Arranged.{source_nets, sources_of_chain, source_number, segments_of, source_count}
 use Rattle.bb_choose.specs.Coding.{AreLeafNets, AreNumbers, AreSourcesOf, CanTakeColumns}

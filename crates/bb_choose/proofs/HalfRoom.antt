@@ -3,15 +3,15 @@ use Rattle.std.proofs.Common.{arith, ◌≡◌, ◌⊎◌, inl, inr, ℕ, zero, 
 use lib.Count
 use Rattle.std.specs.Set.{distinct_count}
 use Rattle.bb_base.proofs.Contained.{either, none_in}
-use Rattle.bb_netlist.specs.Net.{Gate}
-use Rattle.bb_segment.specs.Paths.{Behind}
-use Rattle.bb_segment.specs.Cuts.{AreCuts, IsTooWide}
+use Rattle.bb_base.specs.Net.{Gate}
+use Rattle.bb_terms.specs.Paths.{Behind}
+use Rattle.bb_terms.specs.Cuts.{AreCuts, IsTooWide}
 use Rattle.bb_segment.proofs.SupportLemmas.{one_support}
-use Rattle.bb_creg.specs.Register.{IsFullPeriod}
+use Rattle.bb_terms.specs.Register.{IsFullPeriod}
 use Rattle.bb_code.specs.Segments.{AreWithin, lists, listing}
-use Rattle.bb_rules.specs.declared.kind.Kind.TheVariants.{Input, Output}
+use Rattle.bb_terms.specs.declared.kind.Kind.TheVariants.{Input, Output}
 use Rattle.bb_rules.specs.Half.{half, half_plan}
-use Rattle.bb_rules.specs.Lines.{is_stop}
+use Rattle.bb_terms.specs.Lines.{is_stop}
 use Rattle.bb_rules.proofs.HalfLemmas.{xor_gate, and_gate, leaves_of, full as full_2}
 use Rattle.bb_rules.proofs.ToggleLemmas.{full as full_1}
 use Rattle.bb_reg.specs.Draft.{DraftValue, AreCells, bare_cell}

@@ -13,3 +13,13 @@ pub mod ValidPlans
 pub mod ArrangementLemmas
 pub mod RoomLemmas
 pub mod HalfRoom
+pub mod CellRules
+pub mod ScheduleLemmas
+pub mod SessionRules
+pub mod SameCells
+pub mod DraftedLemmas
+pub mod CellCounts
+pub mod OwnLineLemmas
+pub mod AlikeLemmas
+pub mod StopLemmas
+pub mod ConflictRules

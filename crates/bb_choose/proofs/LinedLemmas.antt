@@ -5,18 +5,18 @@ use Rattle.std.proofs.lemmas.List.Concat.{flat_map-append}
 use Rattle.std.proofs.lemmas.List.Folds.{flat_map-map}
 use Rattle.std.proofs.lemmas.List.Sorted.{Contains-permutation, IsPermutation-sym, length_permutation}
 use Rattle.bb_base.proofs.Contained.{of_all, to_all}
-use Rattle.bb_netlist.specs.Net.{Netlist}
-use Rattle.bb_rules.specs.declared.plan.Cell.{Cell}
-use Rattle.bb_rules.specs.Kinds.{only_generates}
-use Rattle.bb_rules.specs.Plan.{RegisterValue}
+use Rattle.bb_base.specs.Net.{Netlist}
+use Rattle.bb_terms.specs.declared.plan.Cell.{Cell}
+use Rattle.bb_terms.specs.Kinds.{only_generates}
+use Rattle.bb_terms.specs.Plan.{RegisterValue}
 use Rattle.bb_reg.specs.Draft.{DraftValue, AreCells, HasLeavesWith}
 use Rattle.bb_reg.specs.Chosen.{Seen, in_runs, register_of, grouped_of}
 use Rattle.bb_reg.proofs.DraftLemmas.{zip_join}
 use Rattle.bb_reg.proofs.OnceLemmas.{fitted_once}
-use Rattle.bb_chosen.specs.ChosenPlan.{AreCutsOf}
-use Rattle.bb_chosen.proofs.DraftedLemmas.{sources_generate}
-use Rattle.bb_chosen.proofs.OwnLineLemmas.{IsSeen, each_seen}
-use Rattle.bb_chosen.proofs.ScheduleLemmas.{sources_of, groups_of, observing_register}
+use Rattle.bb_choose.specs.ChosenPlan.{AreCutsOf}
+use Rattle.bb_choose.proofs.DraftedLemmas.{sources_generate}
+use Rattle.bb_choose.proofs.OwnLineLemmas.{IsSeen, each_seen}
+use Rattle.bb_choose.proofs.ScheduleLemmas.{sources_of, groups_of, observing_register}
 
 abbrev pub IsLined : Netlist ℕ → List ℕ → Cell → List ℕ → Type 0
 IsLined a cuts c leaves = ((only_generates c.kind ≡ true) × (leaves ≡ [])) ⊎ HasLeavesWith a cuts c leaves

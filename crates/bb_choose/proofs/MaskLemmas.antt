@@ -4,9 +4,9 @@ use Rattle.std.specs.List.{AllByRecursion}
 use Rattle.std.proofs.lemmas.Bool.Decides.{nat_tests}
 use Rattle.bb_base.specs.Firsts.{IsLeast}
 use Rattle.bb_base.proofs.Contained.{of_all, to_all}
-use Rattle.bb_rules.specs.Plan.{RegisterValue}
+use Rattle.bb_terms.specs.Plan.{RegisterValue}
 use Rattle.std.proofs.lemmas.Grind.{common_steps}
-use Rattle.bb_creg.specs.Register.{IsFullMask}
+use Rattle.bb_terms.specs.Register.{IsFullMask}
 use Rattle.bb_choose.specs.Choice.{HasFullMask, IsUnmasked, IsFirstUnmasked}
 use Rattle.bb_choose.specs.Coding.{HasLength}
 

@@ -7,11 +7,11 @@ use Rattle.std.proofs.lemmas.Option.{slice_get-get_or, slice_get_within, slice_g
 use Rattle.bb_base.specs.Firsts.{IsLeast}
 use Rattle.bb_base.proofs.Contained.{of_all, to_all, place_of, contains_at, contains_map}
 use Rattle.bb_base.proofs.Lists.{length_map, map_join, all_parts, get_map, get_some}
-use Rattle.bb_creg.specs.Register.{IsFullMask}
-use Rattle.bb_rules.specs.declared.plan.Cell.{Cell}
-use Rattle.bb_rules.specs.Kinds.{is_source}
-use Rattle.bb_rules.specs.Plan.{RegisterValue}
-use Rattle.bb_chosen.specs.ChosenPlan.{IsSameCell, IsSameRegister}
+use Rattle.bb_terms.specs.Register.{IsFullMask}
+use Rattle.bb_terms.specs.declared.plan.Cell.{Cell}
+use Rattle.bb_terms.specs.Kinds.{is_source}
+use Rattle.bb_terms.specs.Plan.{RegisterValue}
+use Rattle.bb_choose.specs.ChosenPlan.{IsSameCell, IsSameRegister}
 use Rattle.bb_words.specs.declared.command.Settings.{Settings}
 use Rattle.bb_code.specs.Columns.{AreAllColumns}
 use Rattle.bb_reg.specs.Chosen.{GroupedValue, scheduled_of}

@@ -5,26 +5,26 @@ use Rattle.std.proofs.lemmas.List.Kept.{AllPairs-filter}
 use Rattle.std.proofs.lemmas.Option.{slice_get-get_or}
 use Rattle.bb_base.proofs.Contained.{here, there, either, none_in, of_all, to_all, place_of, contains_at, contains_map}
 use Rattle.bb_base.proofs.Lists.{length_map, get_map as back_map}
-use Rattle.bb_netlist.specs.Net.{Netlist, driven, IsNetlist}
-use Rattle.bb_segment.specs.Paths.{IsLeaf}
-use Rattle.bb_rules.specs.declared.kind.Kind.{Kind}
-use Rattle.bb_rules.specs.declared.kind.Kind.TheVariants.{Input, State, Split, Cut, Watch, Output}
-use Rattle.bb_rules.specs.declared.plan.Cell.{Cell}
-use Rattle.bb_rules.specs.Kinds.{is_source, takes_d, takes_net}
-use Rattle.bb_rules.specs.Plan.{RegisterValue, PlanValue, chain}
-use Rattle.bb_rules.specs.Lines.{is_stop, IsLeafOf}
-use Rattle.bb_rules.specs.Rules.{Holds, Apart, MayStand, meet}
-use Rattle.bb_rules.proofs.NetLemmas.{out_within, q_within, input_net_within}
-use Rattle.bb_rules.proofs.StopLemmas.{leaf_within, source_at}
+use Rattle.bb_base.specs.Net.{Netlist, driven, IsNetlist}
+use Rattle.bb_terms.specs.Paths.{IsLeaf}
+use Rattle.bb_terms.specs.declared.kind.Kind.{Kind}
+use Rattle.bb_terms.specs.declared.kind.Kind.TheVariants.{Input, State, Split, Cut, Watch, Output}
+use Rattle.bb_terms.specs.declared.plan.Cell.{Cell}
+use Rattle.bb_terms.specs.Kinds.{is_source, takes_d, takes_net}
+use Rattle.bb_terms.specs.Plan.{RegisterValue, PlanValue, chain}
+use Rattle.bb_terms.specs.Lines.{is_stop, IsLeafOf}
+use Rattle.bb_terms.specs.Rules.{Holds, Apart, MayStand, meet}
+use Rattle.bb_terms.proofs.NetLemmas.{out_within, q_within, input_net_within}
+use Rattle.bb_terms.proofs.StopLemmas.{leaf_within, source_at}
 use Rattle.bb_reg.specs.Draft.{DraftValue, AreCells, bare_cell}
 use Rattle.bb_reg.specs.Chosen.{grouped_of, scheduled_of}
 use Rattle.bb_reg.proofs.SeenLemmas.{get_map}
 use Rattle.bb_reg.proofs.ApartLemmas.{register_counts}
 use Rattle.bb_reg.proofs.GroupedLemmas.{chain_long, leaves_each, few_registers}
-use Rattle.bb_chosen.specs.ChosenPlan.{AreCutsOf, IsChosen, IsSameCell, IsSameRegister}
-use Rattle.bb_chosen.proofs.AlikeLemmas.{zip_back}
-use Rattle.bb_chosen.proofs.CellRules.{apart_held, kinds_held, served_held}
-use Rattle.bb_chosen.proofs.StopLemmas.{stops_same}
+use Rattle.bb_choose.specs.ChosenPlan.{AreCutsOf, IsChosen, IsSameCell, IsSameRegister}
+use Rattle.bb_choose.proofs.AlikeLemmas.{zip_back}
+use Rattle.bb_choose.proofs.CellRules.{apart_held, kinds_held, served_held}
+use Rattle.bb_choose.proofs.StopLemmas.{stops_same}
 use Rattle.bb_choose.specs.Arranged.{source_nets, sources_of_chain}
 use Rattle.bb_choose.specs.Coding.{AreLeafNets, CanTakeColumns}
 use Rattle.bb_choose.proofs.LinedLemmas.{IsLined, chain_lined}

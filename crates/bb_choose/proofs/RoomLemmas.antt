@@ -4,12 +4,12 @@ use Rattle.std.proofs.Math.Nat.{mul-le-mul_left}
 use Rattle.std.specs.List.{AllByRecursion}
 use Rattle.std.specs.Set.{distinct_count}
 use Rattle.bb_base.proofs.Contained.{of_all, contains_at}
-use Rattle.bb_netlist.specs.Net.{Gate, Netlist, IsNetlist}
-use Rattle.bb_segment.specs.Cuts.{IsFirstWide}
+use Rattle.bb_base.specs.Net.{Gate, Netlist, IsNetlist}
+use Rattle.bb_terms.specs.Cuts.{IsFirstWide}
 use Rattle.bb_code.specs.declared.fault.Need.{Need}
 use Rattle.bb_code.proofs.Existing.{columns_exist}
 use Rattle.bb_code.proofs.OneChoice.{states_grow}
-use Rattle.bb_rules.specs.Plan.{RegisterValue}
+use Rattle.bb_terms.specs.Plan.{RegisterValue}
 use Rattle.bb_reg.specs.Chosen.{GroupedValue, scheduled_of}
 use Rattle.bb_words.specs.declared.command.Settings.{Settings}
 use Rattle.bb_choose.specs.Arranged.{AreInRange, segments_of, source_count}

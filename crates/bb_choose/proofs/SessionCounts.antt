@@ -3,10 +3,10 @@ use Rattle.std.proofs.Common.{arith, ℕ, suc, ◌≤◌, not, Bool, true, false
 use Rattle.std.specs.List.{AllByRecursion, flat_map, list_any}
 use Rattle.std.proofs.lemmas.List.Sorted.{length_permutation}
 use Rattle.bb_base.proofs.Lists.{length_map}
-use Rattle.bb_rules.specs.Plan.{RegisterValue, has_input}
+use Rattle.bb_terms.specs.Plan.{RegisterValue, has_input}
 use Rattle.bb_reg.specs.Chosen.{Seen, GroupedValue, conflict, seen_cells, compacting_from, numbered_sessions, scheduled_of}
 use Rattle.bb_reg.proofs.OnceLemmas.{fitted_once}
-use Rattle.bb_chosen.proofs.ScheduleLemmas.{some_each}
+use Rattle.bb_choose.proofs.ScheduleLemmas.{some_each}
 
 nonempty_few : {X : Type 0} (groups : List (List X)) → AllByRecursion (λ group. 1 ≤ length group) groups → length groups ≤ length (flat_map (λ group. group) groups)
 nonempty_few [] h = omega arith

@@ -4,24 +4,24 @@ use Rattle.std.specs.List.{AllZip, flat_map}
 use Rattle.std.proofs.lemmas.Option.{slice_get_within, get_or_from_slice_get}
 use Rattle.bb_base.specs.Firsts.{IsLeast}
 use Rattle.bb_base.proofs.Contained.{of_all, at_place, place_of, contains_at, contains_map}
-use Rattle.bb_netlist.specs.Net.{Netlist, IsNetlist}
-use Rattle.bb_netlist.specs.Order.{IsOrder}
-use Rattle.bb_segment.specs.Paths.{is_free}
-use Rattle.bb_segment.specs.Cuts.{AreCuts}
+use Rattle.bb_base.specs.Net.{Netlist, IsNetlist}
+use Rattle.bb_base.specs.Order.{IsOrder}
+use Rattle.bb_terms.specs.Paths.{is_free}
+use Rattle.bb_terms.specs.Cuts.{AreCuts}
 use Rattle.bb_cone.proofs.DrivenLemmas.{cuts_driven}
-use Rattle.bb_creg.specs.Register.{IsFullMask}
+use Rattle.bb_terms.specs.Register.{IsFullMask}
 use Rattle.bb_code.proofs.OneChoice.{columns_below}
-use Rattle.bb_rules.specs.declared.plan.Cell.{Cell}
-use Rattle.bb_rules.specs.Kinds.{is_source}
-use Rattle.bb_rules.specs.Plan.{RegisterValue, PlanValue, chain}
-use Rattle.bb_rules.specs.Rules.{Holds, Frame, Registers, Room, Columns}
+use Rattle.bb_terms.specs.declared.plan.Cell.{Cell}
+use Rattle.bb_terms.specs.Kinds.{is_source}
+use Rattle.bb_terms.specs.Plan.{RegisterValue, PlanValue, chain}
+use Rattle.bb_terms.specs.Rules.{Holds, Frame, Registers, Room, Columns}
 use Rattle.bb_reg.specs.Draft.{DraftValue}
 use Rattle.bb_reg.specs.Chosen.{GroupedValue, grouped_of}
 use Rattle.bb_reg.proofs.ApartLemmas.{register_counts}
 use Rattle.bb_reg.proofs.LineLemmas.{zip_long}
-use Rattle.bb_chosen.specs.ChosenPlan.{AreCutsOf, IsSameCell, IsSameRegister}
-use Rattle.bb_chosen.proofs.AlikeLemmas.{zip_forth}
-use Rattle.bb_chosen.proofs.SameCells.{chains_alike}
+use Rattle.bb_choose.specs.ChosenPlan.{AreCutsOf, IsSameCell, IsSameRegister}
+use Rattle.bb_choose.proofs.AlikeLemmas.{zip_forth}
+use Rattle.bb_choose.proofs.SameCells.{chains_alike}
 use Rattle.bb_words.specs.declared.command.Settings.{Settings}
 use Rattle.bb_choose.specs.Arranged.{AreInRange, segments_of, source_columns, sources_of_chain}
 use Rattle.bb_choose.specs.Choice.{IsPlanOf}

@@ -5,20 +5,20 @@ use Rattle.std.specs.List.{AllZip}
 use Rattle.std.proofs.lemmas.Option.{slice_get-map, get_or_from_slice_get}
 use Rattle.bb_base.proofs.Contained.{of_all, at_place, place_of, contains_at, map_on}
 use Rattle.bb_base.proofs.Lists.{get_map, map_twice}
-use Rattle.bb_netlist.specs.Net.{Netlist}
-use Rattle.bb_gf2.specs.Span.{IsIndependent}
+use Rattle.bb_base.specs.Net.{Netlist}
+use Rattle.bb_base.specs.Span.{IsIndependent}
 use Rattle.bb_code.specs.Columns.{columns_of}
 use Rattle.bb_code.proofs.OneChoice.{segments_independent}
-use Rattle.bb_rules.specs.declared.plan.Cell.{Cell}
-use Rattle.bb_rules.specs.Kinds.{is_source}
-use Rattle.bb_rules.specs.Plan.{PlanValue, chain}
-use Rattle.bb_rules.specs.Lines.{column_of}
-use Rattle.bb_rules.specs.Rules.{Holds, Apart, Codes}
+use Rattle.bb_terms.specs.declared.plan.Cell.{Cell}
+use Rattle.bb_terms.specs.Kinds.{is_source}
+use Rattle.bb_terms.specs.Plan.{PlanValue, chain}
+use Rattle.bb_terms.specs.Lines.{column_of}
+use Rattle.bb_terms.specs.Rules.{Holds, Apart, Codes}
 use Rattle.bb_rules.proofs.CellLemmas.{column_is}
 use Rattle.bb_reg.specs.Draft.{DraftValue, AreCells}
 use Rattle.bb_reg.specs.Chosen.{GroupedValue, grouped_of}
-use Rattle.bb_chosen.specs.ChosenPlan.{AreCutsOf, IsSameCell}
-use Rattle.bb_chosen.proofs.CellRules.{apart_held}
+use Rattle.bb_choose.specs.ChosenPlan.{AreCutsOf, IsSameCell}
+use Rattle.bb_choose.proofs.CellRules.{apart_held}
 use Rattle.bb_words.specs.declared.command.Settings.{Settings}
 use Rattle.bb_choose.specs.Arranged.{sources_of_chain, source_nets, source_columns, source_number, segments_of, source_count}
 use Rattle.bb_choose.specs.Choice.{IsPlanOf}

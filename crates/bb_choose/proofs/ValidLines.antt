@@ -2,28 +2,28 @@
 use Rattle.std.proofs.Common.{arith, ◌≡◌, ◌⊎◌, inl, inr, ℕ, ◌≤◌, ◌&&◌, ◌||◌, not, Bool, true, false, List, [], ◌∷◌, length, refl, sym, ap, subst, ◌∙◌, Contains, slice_get, Some, nat_eq}
 use Rattle.std.specs.List.{list_any}
 use Rattle.bb_base.proofs.Contained.{here, either, none_in}
-use Rattle.bb_netlist.specs.Net.{Gate, Netlist, IsNetlist}
-use Rattle.bb_segment.specs.Paths.{is_free, Start, AtNet, Behind}
-use Rattle.bb_segment.specs.Support.{AreLeaves}
-use Rattle.bb_segment.specs.Cuts.{AreCuts}
-use Rattle.bb_segment.specs.Function.{StandsIn}
-use Rattle.bb_segment.proofs.FunctionLemmas.{driver_of}
+use Rattle.bb_base.specs.Net.{Gate, Netlist, IsNetlist}
+use Rattle.bb_terms.specs.Paths.{is_free, Start, AtNet, Behind}
+use Rattle.bb_terms.specs.Support.{AreLeaves}
+use Rattle.bb_terms.specs.Cuts.{AreCuts}
+use Rattle.bb_terms.specs.Function.{StandsIn}
+use Rattle.bb_terms.proofs.FunctionLemmas.{driver_of}
 use Rattle.bb_segment.proofs.LeafLemmas.{at_stop, at_open}
 use Rattle.bb_segment.proofs.ShortLemmas.{short_supports}
 use Rattle.bb_segment.proofs.SupportLemmas.{one_support}
-use Rattle.bb_rules.specs.declared.kind.Kind.{Kind}
-use Rattle.bb_rules.specs.declared.kind.Kind.TheVariants.{Input, State, Split, Cut, Watch, Output}
-use Rattle.bb_rules.specs.declared.plan.Cell.{Cell}
-use Rattle.bb_rules.specs.Kinds.{is_source, is_observer, only_generates}
-use Rattle.bb_rules.specs.Plan.{PlanValue, chain}
-use Rattle.bb_rules.specs.Lines.{is_stop, cut_nets, IsStartOf}
-use Rattle.bb_rules.specs.Rules.{Holds, Widths, AreLeavesOf}
-use Rattle.bb_rules.proofs.NetLemmas.{one_gate}
+use Rattle.bb_terms.specs.declared.kind.Kind.{Kind}
+use Rattle.bb_terms.specs.declared.kind.Kind.TheVariants.{Input, State, Split, Cut, Watch, Output}
+use Rattle.bb_terms.specs.declared.plan.Cell.{Cell}
+use Rattle.bb_terms.specs.Kinds.{is_source, is_observer, only_generates}
+use Rattle.bb_terms.specs.Plan.{PlanValue, chain}
+use Rattle.bb_terms.specs.Lines.{is_stop, cut_nets, IsStartOf}
+use Rattle.bb_terms.specs.Rules.{Holds, Widths, AreLeavesOf}
+use Rattle.bb_terms.proofs.NetLemmas.{one_gate}
 use Rattle.bb_reg.specs.Draft.{DraftValue, AreCells}
 use Rattle.bb_reg.specs.Chosen.{grouped_of}
-use Rattle.bb_chosen.specs.ChosenPlan.{AreCutsOf, IsChosen, IsSameCell}
-use Rattle.bb_chosen.proofs.AlikeLemmas.{zip_forth}
-use Rattle.bb_chosen.proofs.StopLemmas.{stops_same}
+use Rattle.bb_choose.specs.ChosenPlan.{AreCutsOf, IsChosen, IsSameCell}
+use Rattle.bb_choose.proofs.AlikeLemmas.{zip_forth}
+use Rattle.bb_choose.proofs.StopLemmas.{stops_same}
 use Rattle.bb_words.specs.declared.command.Settings.{Settings}
 use Rattle.bb_choose.specs.Arranged.{AreInRange}
 use Rattle.bb_choose.specs.Choice.{IsPlanOf}

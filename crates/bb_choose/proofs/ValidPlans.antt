@@ -1,17 +1,17 @@
 -- The plan that is chosen for a netlist meets every rule.
 use Rattle.std.proofs.Common.{ℕ, ◌≤◌, List, length, subst}
-use Rattle.bb_netlist.specs.Net.{Netlist, IsNetlist, driven}
-use Rattle.bb_netlist.specs.Order.{IsOrder}
-use Rattle.bb_segment.specs.Cuts.{AreCuts}
-use Rattle.bb_rules.specs.Plan.{PlanValue}
-use Rattle.bb_rules.specs.Rules.{Rule, Holds, Frame, Registers, Kinds, Apart, Served, Pure, Sessions, Compacted, Room, Columns, Widths, Conflicts, Codes, Period}
-use Rattle.bb_rules.specs.Valid.{IsValidPlan}
+use Rattle.bb_base.specs.Net.{Netlist, IsNetlist, driven}
+use Rattle.bb_base.specs.Order.{IsOrder}
+use Rattle.bb_terms.specs.Cuts.{AreCuts}
+use Rattle.bb_terms.specs.Plan.{PlanValue}
+use Rattle.bb_terms.specs.Rules.{Rule, Holds, Frame, Registers, Kinds, Apart, Served, Pure, Sessions, Compacted, Room, Columns, Widths, Conflicts, Codes, Period}
+use Rattle.bb_terms.specs.Valid.{IsValidPlan}
 use Rattle.bb_reg.specs.Draft.{DraftValue, AreCells}
 use Rattle.bb_reg.specs.Chosen.{GroupedValue, grouped_of}
-use Rattle.bb_chosen.specs.ChosenPlan.{AreCutsOf, IsChosen}
-use Rattle.bb_chosen.proofs.CellRules.{kinds_held, apart_held, served_held, pure_held}
-use Rattle.bb_chosen.proofs.SessionRules.{sessions_meet, compacted}
-use Rattle.bb_chosen.proofs.ConflictRules.{conflicts_meet}
+use Rattle.bb_choose.specs.ChosenPlan.{AreCutsOf, IsChosen}
+use Rattle.bb_choose.proofs.CellRules.{kinds_held, apart_held, served_held, pure_held}
+use Rattle.bb_choose.proofs.SessionRules.{sessions_meet, compacted}
+use Rattle.bb_choose.proofs.ConflictRules.{conflicts_meet}
 use Rattle.bb_words.specs.declared.command.Settings.{Settings}
 use Rattle.bb_choose.specs.Arranged.{AreInRange}
 use Rattle.bb_choose.specs.Choice.{IsPlanOf, IsChosenPlan}

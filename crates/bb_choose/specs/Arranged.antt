@@ -1,11 +1,11 @@
 -- What is chosen for a netlist before any column is: its cuts, its cells and its registers, and the segments by the numbers of their sources.
 use Rattle.std.specs.Prelude.{◌≡◌, ℕ, ◌≤◌, List, length, map, filter, not, nat_eq}
 use Rattle.std.specs.List.{flat_map, prefix_len}
-use Rattle.bb_netlist.specs.Net.{Netlist}
-use Rattle.bb_segment.specs.Cuts.{AreCuts}
-use Rattle.bb_rules.specs.declared.plan.Cell.{Cell}
-use Rattle.bb_rules.specs.Kinds.{is_source}
-use Rattle.bb_rules.specs.Plan.{RegisterValue}
+use Rattle.bb_base.specs.Net.{Netlist}
+use Rattle.bb_terms.specs.Cuts.{AreCuts}
+use Rattle.bb_terms.specs.declared.plan.Cell.{Cell}
+use Rattle.bb_terms.specs.Kinds.{is_source}
+use Rattle.bb_terms.specs.Plan.{RegisterValue}
 use Rattle.bb_reg.specs.Draft.{DraftValue, AreCells}
 use Rattle.bb_reg.specs.Chosen.{GroupedValue, grouped_of}
 use Rattle.bb_words.specs.declared.command.Settings.{Settings}

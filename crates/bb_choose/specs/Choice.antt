@@ -2,16 +2,16 @@
 use Rattle.std.specs.Prelude.{◌≡◌, ◌⊎◌, ℕ, ◌+◌, ◌*◌, ◌^◌, ◌<◌, ◌≤◌, false, List, length, Some, slice_get, Contains}
 use Rattle.std.specs.List.{AllByRecursion, AllZip}
 use Rattle.bb_base.specs.Firsts.{IsLeast}
-use Rattle.bb_netlist.specs.Net.{Netlist}
-use Rattle.bb_creg.specs.Register.{IsFullMask}
+use Rattle.bb_base.specs.Net.{Netlist}
+use Rattle.bb_terms.specs.Register.{IsFullMask}
 use Rattle.bb_code.specs.Columns.{AreAllColumns}
 use Rattle.bb_code.specs.Degree.{IsCodeDegree, IsNeed}
 use Rattle.bb_code.specs.declared.fault.Need.{Need}
 use Rattle.bb_code.specs.declared.fault.Need.TheVariants.{Cells, Source}
-use Rattle.bb_rules.specs.Kinds.{is_source}
-use Rattle.bb_rules.specs.Plan.{RegisterValue, PlanValue, chain}
+use Rattle.bb_terms.specs.Kinds.{is_source}
+use Rattle.bb_terms.specs.Plan.{RegisterValue, PlanValue, chain}
 use Rattle.bb_reg.specs.Chosen.{GroupedValue, scheduled_of}
-use Rattle.bb_chosen.specs.ChosenPlan.{IsSameRegister}
+use Rattle.bb_choose.specs.ChosenPlan.{IsSameRegister}
 use Rattle.bb_words.specs.declared.command.Settings.{Settings}
 use Rattle.bb_choose.specs.Arranged.{IsArranged, segments_of, source_nets, source_columns, source_count, cell_count}
 

@@ -2,7 +2,7 @@
 use Rattle.std.specs.Prelude.{ℕ, ◌*◌, ◌-◌, ◌^◌, ◌<◌, ◌≤◌, List, length, nat_eq}
 use Rattle.std.specs.List.{AllByRecursion}
 use Rattle.std.specs.Set.{distinct_count}
-use Rattle.bb_netlist.specs.Net.{Netlist}
+use Rattle.bb_base.specs.Net.{Netlist}
 use Rattle.bb_code.specs.Segments.{AreWithin, ListSources}
 use Rattle.bb_reg.specs.Chosen.{GroupedValue}
 use Rattle.bb_words.specs.declared.command.Settings.{Settings}

@@ -2,3 +2,4 @@ pub mod Arranged
 pub mod Choice
 pub mod Coding
 pub mod Enough
+pub mod ChosenPlan

@@ -3,14 +3,15 @@
 ghost use Rattle.std.specs.Prelude.{◌≡◌, ◌≤◌, ℕ, length, nat_eq, IfOk, OnOk, IsErrOf};
 ghost use Rattle.std.specs.List.{AllByRecursion};
 ghost use Rattle.std.specs.Set.{distinct_count};
-ghost use Rattle.bb_netlist.specs.Net.{IsNetlist, driven};
-ghost use Rattle.bb_netlist.specs.Order.{IsOrder};
-ghost use Rattle.bb_segment.specs.Cuts.{IsFirstWide};
+ghost use Rattle.bb_base.specs.Net.{IsNetlist, driven};
+ghost use Rattle.bb_base.specs.Order.{IsOrder};
+ghost use Rattle.bb_terms.specs.Cuts.{IsFirstWide};
 ghost use Rattle.bb_choose.specs.Arranged.{AreInRange, IsArranged};
 ghost use Rattle.bb_choose.specs.Coding.{CanTakeColumns};
 
+use bb_base::Netlist;
 use bb_cone::{CutFault, cuts};
-use bb_netlist::{Netlist, Order};
+use bb_netlist::Order;
 use bb_reg::{Grouped, cells, group};
 use bb_words::Settings;
 use std::alloc::Global;

@@ -4,9 +4,9 @@ ghost use Rattle.std.specs.Prelude.{◌≡◌, ◌+◌, ◌*◌, ◌^◌, ◌≤
 ghost use Rattle.std.specs.List.{AllByRecursion};
 ghost use Rattle.std.specs.Set.{distinct_count};
 ghost use Rattle.bb_base.specs.Firsts.{IsLeast};
-ghost use Rattle.bb_netlist.specs.Net.{driven};
-ghost use Rattle.bb_netlist.specs.Order.{IsOrder};
-ghost use Rattle.bb_segment.specs.Cuts.{IsFirstWide};
+ghost use Rattle.bb_base.specs.Net.{driven};
+ghost use Rattle.bb_base.specs.Order.{IsOrder};
+ghost use Rattle.bb_terms.specs.Cuts.{IsFirstWide};
 ghost use Rattle.bb_code.specs.declared.fault.Need.{Need as NeedValue};
 ghost use Rattle.bb_code.specs.Segments.{sources_of};
 ghost use Rattle.bb_code.specs.Columns.{AreAllColumns};
@@ -19,11 +19,12 @@ use crate::arranged::arranged;
 use crate::coding::coded_registers;
 use crate::masks::all_masks;
 use crate::sources::{Sources, sources_in};
+use bb_base::Netlist;
 use bb_code::{Coded, DegreeFault, Need, degree};
 use bb_cone::CutFault;
-use bb_netlist::{Netlist, Order};
+use bb_netlist::Order;
 use bb_reg::{Grouped, sessions};
-use bb_rules::Plan;
+use bb_terms::Plan;
 use bb_words::Settings;
 use std::alloc::Global;
 

@@ -4,7 +4,7 @@ ghost use Rattle.std.specs.Prelude.{◌≡◌, ◌<◌, ◌≤◌, ◌++◌, len
 ghost use Rattle.std.specs.List.{AllByRecursion};
 ghost use Rattle.bb_choose.specs.Coding.{HasColumn, coded_cell, coded_register};
 
-use bb_rules::{Cell, Register};
+use bb_terms::{Cell, Register};
 use std::alloc::{AllocError, Global};
 
 /// The column of the source on a cell's net, 0 where the cell is none.

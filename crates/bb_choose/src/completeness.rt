@@ -1,8 +1,8 @@
 //! A plan is chosen where there is room for one: laws, as contracts of functions without a body.
 
 ghost use Rattle.std.specs.Prelude.{◌≡◌, ◌≤◌, ℕ, List, [], ◌∷◌};
-ghost use Rattle.bb_netlist.specs.Net.{Netlist, IsNetlist};
-ghost use Rattle.bb_segment.specs.Cuts.{IsFirstWide};
+ghost use Rattle.bb_base.specs.Net.{Netlist, IsNetlist};
+ghost use Rattle.bb_terms.specs.Cuts.{IsFirstWide};
 ghost use Rattle.bb_code.specs.declared.fault.Need.{Need};
 ghost use Rattle.bb_rules.specs.Half.{half};
 ghost use Rattle.bb_reg.specs.Chosen.{GroupedValue};

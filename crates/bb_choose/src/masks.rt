@@ -3,13 +3,13 @@
 ghost use Rattle.std.specs.Prelude.{◌≡◌, ◌<◌, ◌≤◌, ◌↔◌, ℕ, length, slice_index, IsTrue, IfOk, IfErr};
 ghost use Rattle.std.specs.List.{AllByRecursion};
 ghost use Rattle.bb_base.specs.Firsts.{IsLeast};
-ghost use Rattle.bb_creg.specs.Register.{IsDegree, IsFullMask};
+ghost use Rattle.bb_terms.specs.Register.{IsDegree, IsFullMask};
 ghost use Rattle.bb_choose.specs.Choice.{IsUnmasked, IsFirstUnmasked};
 ghost use Rattle.bb_choose.specs.Coding.{HasLength};
 
 use arrayvec::ArrayVec;
 use bb_creg::{NoFullPeriod, taps};
-use bb_rules::Register;
+use bb_terms::Register;
 
 /// Whether a register has so many cells.
 fn has_length(registers: &[Register], cells: u32) -> bool

@@ -2,15 +2,15 @@
 
 ghost use Rattle.std.specs.Prelude.{◌≡◌, ◌≢◌, ◌<◌, ◌≤◌, ◌^◌, ◌++◌, ℕ, length, map, filter, slice_index, AllPairs, IfOk, OnOk};
 ghost use Rattle.std.specs.List.{AllByRecursion};
-ghost use Rattle.bb_rules.specs.Kinds.{is_source};
+ghost use Rattle.bb_terms.specs.Kinds.{is_source};
 ghost use Rattle.bb_code.specs.Segments.{sources_of};
 ghost use Rattle.bb_choose.specs.Arranged.{source_nets};
 ghost use Rattle.bb_choose.specs.Coding.{AreNumbers, AreSourcesOf, CanTakeColumns};
 
 use arrayvec::ArrayVec;
-use bb_netlist::NetId;
+use bb_base::NetId;
 use bb_reg::Grouped;
-use bb_rules::{Cell, Register};
+use bb_terms::{Cell, Register};
 use std::alloc::{AllocError, Global};
 
 /// Adds the nets of the source cells among some.

@@ -2,9 +2,9 @@
 
 use crate::netlists::{HALF, NINE, SMALL, read};
 use crate::rows::{choice, fault_of, settings, size_of};
+use bb_base::BitName;
 use bb_choose::{ChoiceFault, Settings};
 use bb_code::Need;
-use bb_net::BitName;
 
 #[test]
 fn a_gate_of_nine_inputs_is_too_wide_at_eight(rt: HostRuntime) {

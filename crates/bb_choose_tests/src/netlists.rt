@@ -1,7 +1,7 @@
 // Netlists that tests read from canonical texts, each with the order of its gates.
 
 ghost use Rattle.std.specs.Prelude.{IfSome};
-ghost use Rattle.bb_netlist.specs.Order.{IsOrder};
+ghost use Rattle.bb_base.specs.Order.{IsOrder};
 
 use bb_canon::read_canonical;
 use bb_net::Named;

@@ -3,7 +3,7 @@
 use crate::netlists::{AGAIN, DRAWN, HALF, NONE, ONE, SMALL, SWAP, TOGGLE, TREE, WIRE};
 use crate::rows::{is_chosen, settings, size_of};
 use bb_choose::Settings;
-use bb_rules::Kind;
+use bb_terms::Kind;
 
 #[test]
 fn a_half_adder_has_two_registers_and_one_session(rt: HostRuntime) {

@@ -1,14 +1,15 @@
 // What is chosen for a netlist's text, beside what is expected.
 
 ghost use Rattle.std.specs.Prelude.{◌≤◌};
-ghost use Rattle.bb_netlist.specs.Order.{IsOrder};
+ghost use Rattle.bb_base.specs.Order.{IsOrder};
 ghost use Rattle.bb_choose.specs.Arranged.{AreInRange};
 
 use crate::netlists::read;
+use bb_base::BitName;
 use bb_choose::{ChoiceFault, Chosen, Settings, choose};
-use bb_net::{BitName, Named};
+use bb_net::Named;
 use bb_netlist::Order;
-use bb_rules::{Kind, Plan, Register};
+use bb_terms::{Kind, Plan, Register};
 use std::alloc::Global;
 
 /// What the program's options are where none is given, but for the width and the bounds of degrees.

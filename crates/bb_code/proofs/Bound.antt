@@ -5,7 +5,7 @@ use Rattle.std.proofs.lemmas.Bool.{cases_eq, eq-eqb, or_right, or_left, false_fr
 use Rattle.std.proofs.lemmas.List.Folds.{list_any-append}
 use Rattle.std.proofs.lemmas.Map.Steps.{le-length_from_below}
 use Rattle.std.proofs.Math.Nat.{pow-suc, pow-le-pow_right}
-use Rattle.bb_gf2.specs.Span.{IsInSpan, IsInCoset}
+use Rattle.bb_base.specs.Span.{IsInSpan, IsInCoset}
 use Rattle.bb_code.specs.Segments.{AreWithin, ListSources, lists, listing}
 use Rattle.bb_code.specs.Columns.{given_columns, forbidding, IsFree, IsStuckSource}
 use Rattle.bb_code.specs.Marks.{sizes}

@@ -4,7 +4,7 @@ use Rattle.std.specs.List.{list_any, AllByRecursion}
 use Rattle.std.proofs.lemmas.Bool.{cases_lt, cases_eq, eqb-true, or_cases}
 use Rattle.std.proofs.lemmas.List.{length_push}
 use Rattle.std.proofs.lemmas.List.Folds.{list_any-append}
-use Rattle.bb_gf2.specs.Span.{IsInSpan, IsInCoset}
+use Rattle.bb_base.specs.Span.{IsInSpan, IsInCoset}
 use Rattle.bb_base.specs.Firsts.{IsLeast}
 use Rattle.bb_code.specs.Segments.{AreWithin, ListSources}
 use Rattle.bb_code.specs.Columns.{forbidding, IsFree, AreAllColumns, IsStuckSource}

@@ -5,7 +5,7 @@ use Rattle.std.proofs.lemmas.Bool.{cases_lt, cases_eq, both_ways}
 use Rattle.std.proofs.lemmas.List.{map_more, length-set, length-replicate, get_or-replicate}
 use Rattle.std.proofs.lemmas.Nat.{pow_pos}
 use Rattle.std.specs.List.{AllByRecursion}
-use Rattle.bb_gf2.specs.Span.{IsInSpan, IsInCoset}
+use Rattle.bb_base.specs.Span.{IsInSpan, IsInCoset}
 use Rattle.bb_base.specs.Firsts.{IsLeast}
 use Rattle.bb_code.specs.Columns.{IsFree}
 use Rattle.bb_code.specs.Marks.{sizes, IsInside}

@@ -5,7 +5,7 @@ use Rattle.std.specs.List.{AllByRecursion, EachIndex}
 use Rattle.std.proofs.lemmas.Bool.{cases_lt}
 use Rattle.std.proofs.lemmas.List.{take_all, take_at, take-append-le, take_more, take_more_same, length-take-le, get_or_append_left, get_or_push, length_push}
 use Rattle.std.proofs.Math.Nat.{pow-le-pow_right}
-use Rattle.bb_gf2.specs.Span.{IsInSpan, IsIndependent}
+use Rattle.bb_base.specs.Span.{IsInSpan, IsIndependent}
 use Rattle.bb_base.specs.Firsts.{IsLeast}
 use Rattle.bb_code.specs.Segments.{IsSegment, lists, listing}
 use Rattle.bb_code.specs.Columns.{columns_of, given_columns, forbidding, IsFree, AreColumns, AreAllColumns, IsStuckSource}

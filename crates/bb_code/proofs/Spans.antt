@@ -2,7 +2,7 @@
 use Rattle.std.proofs.Common.{◌≡◌, ℕ, ◌/◌, ◌<◌, List, [], ◌∷◌, ◌++◌, length, Bool, true, false, refl, sym, ap, ◌∙◌, subst, arith, bit_xor, ◌⊎◌, inl, inr, ⊎_elim}
 use Rattle.std.proofs.lemmas.Bool.Decides.{nat_tests}
 use lib.Bits.{xor_zero_r, xor_assoc, xor_self, xor_comm}
-use Rattle.bb_gf2.specs.Span.{combined, IsInSpan, IsInCoset, IsDependence, IsIndependent}
+use Rattle.bb_base.specs.Span.{combined, IsInSpan, IsInCoset, IsDependence, IsIndependent}
 use Rattle.bb_gf2.proofs.Codes.{low_bit}
 use Rattle.bb_gf2.proofs.Combine.{where_true, combined_cons, combined_none, xor_twice}
 use Rattle.bb_gf2.proofs.Cosets.{cons_mask}

@@ -1,7 +1,7 @@
 -- The columns of the code: each source takes the least that no segment's span forbids (this project's own choice).
 use Rattle.std.specs.Prelude.{◌≡◌, ℕ, ◌<◌, ◌^◌, List, length, take, map, filter, nat_lt, slice_index}
 use Rattle.std.specs.List.{AllByRecursion}
-use Rattle.bb_gf2.specs.Span.{IsInSpan}
+use Rattle.bb_base.specs.Span.{IsInSpan}
 use Rattle.bb_base.specs.Firsts.{IsLeast}
 use Rattle.bb_code.specs.Segments.{listing}
 

@@ -1,6 +1,6 @@
 -- Marks on the numbers in some spans.
 use Rattle.std.specs.Prelude.{ℕ, ◌+◌, ◌^◌, ◌⊎◌, List, [], ◌∷◌, length}
-use Rattle.bb_gf2.specs.Span.{IsInSpan}
+use Rattle.bb_base.specs.Span.{IsInSpan}
 
 -- how many numbers some spans have together at most: 2^n for a list of n rows
 abbrev pub sizes : List (List ℕ) → ℕ

@@ -2,7 +2,7 @@
 
 ghost use Rattle.std.specs.Prelude.{◌≡◌, ◌≢◌, ◌<◌, ◌≤◌, ◌*◌, ◌-◌, ◌^◌, ℕ, length, map, IfOk, Ok, Err, MatchOption};
 ghost use Rattle.std.specs.List.{AllByRecursion};
-ghost use Rattle.bb_gf2.specs.Span.{IsIndependent};
+ghost use Rattle.bb_base.specs.Span.{IsIndependent};
 ghost use Rattle.bb_base.specs.Firsts.{IsLeast};
 ghost use Rattle.bb_code.specs.Segments.{IsSegment, AreWithin, listing, sources_of};
 ghost use Rattle.bb_code.specs.Listings.{at_places};

@@ -4,7 +4,7 @@
 
 ghost use Rattle.std.specs.Prelude.{◌≡◌, ◌<◌, ◌≤◌, ◌+◌, ◌^◌, ◌↔◌, ◌⊎◌, ℕ, true, false, length, map, min, IfOk, MatchOption};
 ghost use Rattle.std.specs.List.{slice_index_or};
-ghost use Rattle.bb_gf2.specs.Span.{IsInCoset};
+ghost use Rattle.bb_base.specs.Span.{IsInCoset};
 ghost use Rattle.bb_base.specs.Firsts.{IsLeast};
 ghost use Rattle.bb_code.specs.Columns.{IsFree};
 ghost use Rattle.bb_code.specs.Marks.{sizes, IsInside};

@@ -3,7 +3,7 @@
 
 ghost use Rattle.std.specs.Prelude.{◌≡◌, ◌≢◌, ◌<◌, ◌≤◌, ◌*◌, ◌-◌, ◌^◌, ◌⊎◌, ℕ, IfOk, Ok, Err, IsTrue, ◌↔◌, EachIndex, slice_index};
 ghost use Rattle.std.specs.List.{AllByRecursion};
-ghost use Rattle.bb_gf2.specs.Span.{IsIndependent};
+ghost use Rattle.bb_base.specs.Span.{IsIndependent};
 ghost use Rattle.bb_base.specs.Firsts.{IsLeast};
 ghost use Rattle.bb_code.specs.Segments.{IsSegment, AreWithin, ListSources, sources_of};
 ghost use Rattle.bb_code.specs.Columns.{AreAllColumns, columns_of};

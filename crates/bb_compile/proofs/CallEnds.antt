@@ -1,14 +1,14 @@
 -- How a call ends by its text or its sample: what is made and a refusal never stand together.
 use Rattle.std.proofs.Common.{◌≡◌, ℕ, ◌≤◌, Bool, false, List, length, subst}
 use Rattle.std.specs.Prelude.{Result, Ok, Err}
-use Rattle.bb_netlist.specs.Net.{Gate}
-use Rattle.bb_netlist.specs.Order.{IsOrder}
-use Rattle.bb_net.specs.Named.{Named}
+use Rattle.bb_base.specs.Net.{Gate}
+use Rattle.bb_base.specs.Order.{IsOrder}
+use Rattle.bb_base.specs.Named.{Named}
 use Rattle.bb_words.specs.declared.command.Settings.{Settings}
 use Rattle.bb_choose.specs.Arranged.{AreInRange}
 use Rattle.bb_choose.specs.Enough.{IsEnough}
 use Rattle.bb_make.specs.Artifacts.{ArtifactsValue, AreArtifacts}
-use Rattle.bb_ready.specs.Ready.{IsReady}
+use Rattle.bb_named.specs.Ready.{IsReady}
 use Rattle.bb_sample.specs.Sample.{sample_of}
 use Rattle.bb_say.specs.declared.refusal.TextRefusal.{TextRefusal}
 use Rattle.bb_say.specs.declared.refusal.Refusal.{Refusal}

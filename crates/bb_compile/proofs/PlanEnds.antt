@@ -5,13 +5,13 @@ use Rattle.std.specs.Set.{distinct_count}
 use Rattle.std.proofs.lemmas.List.Elements.{length_all_zip}
 use Rattle.bb_base.specs.Firsts.{IsLeast}
 use Rattle.bb_base.proofs.Contained.{either, none_in, at_place}
-use Rattle.bb_netlist.specs.Net.{Netlist, Gate, IsNetlist}
-use Rattle.bb_net.specs.Named.{Named}
-use Rattle.bb_segment.specs.Cuts.{IsFirstWide}
-use Rattle.bb_creg.specs.Register.{IsFullMask}
-use Rattle.bb_rules.specs.Plan.{RegisterValue, PlanValue}
+use Rattle.bb_base.specs.Net.{Netlist, Gate, IsNetlist}
+use Rattle.bb_base.specs.Named.{Named}
+use Rattle.bb_terms.specs.Cuts.{IsFirstWide}
+use Rattle.bb_terms.specs.Register.{IsFullMask}
+use Rattle.bb_terms.specs.Plan.{RegisterValue, PlanValue}
 use Rattle.bb_reg.specs.Chosen.{GroupedValue}
-use Rattle.bb_chosen.specs.ChosenPlan.{IsSameCell, IsSameRegister}
+use Rattle.bb_choose.specs.ChosenPlan.{IsSameCell, IsSameRegister}
 use Rattle.bb_code.specs.declared.fault.Need.{Need}
 use Rattle.bb_code.specs.declared.fault.Need.TheVariants.{Cells, Source}
 use Rattle.bb_words.specs.declared.command.Settings.{Settings}

@@ -2,13 +2,13 @@
 use Rattle.std.proofs.Common.{◌≡◌, ℕ, ◌<◌, false, List, length, Some, slice_get, get_or, sym, ap, ◌∙◌, subst}
 use Rattle.std.proofs.lemmas.Option.{slice_get-get_or, slice_get_within}
 use Rattle.bb_base.proofs.Contained.{of_all, at_place, contains_at}
-use Rattle.bb_netlist.specs.Net.{Gate, driven}
-use Rattle.bb_netlist.specs.Order.{IsOrder}
-use Rattle.bb_net.specs.Named.{Named, IsNamed}
-use Rattle.bb_segment.specs.Paths.{is_free}
+use Rattle.bb_base.specs.Net.{Gate, driven}
+use Rattle.bb_base.specs.Order.{IsOrder}
+use Rattle.bb_base.specs.Named.{Named, IsNamed}
+use Rattle.bb_terms.specs.Paths.{is_free}
 use Rattle.bb_cone.proofs.DrivenLemmas.{cuts_driven}
-use Rattle.bb_rules.proofs.NetLemmas.{out_within}
-use Rattle.bb_chosen.specs.ChosenPlan.{AreCutsOf}
+use Rattle.bb_terms.proofs.NetLemmas.{out_within}
+use Rattle.bb_choose.specs.ChosenPlan.{AreCutsOf}
 use Rattle.bb_reg.specs.Chosen.{grouped_of, GroupedValue}
 use Rattle.bb_code.specs.declared.fault.Need.TheVariants.{Source}
 use Rattle.bb_words.specs.declared.command.Settings.{Settings}

@@ -3,13 +3,13 @@ use Rattle.std.proofs.Common.{◌≡◌, ◌∙◌, ℕ, ◌≤◌, Bool, false,
 use Rattle.std.proofs.lemmas.List.Elements.{recursion_from_All, All-weaker}
 use Rattle.bb_base.specs.Variables.{Entry, bit_count}
 use Rattle.bb_base.specs.OwnNames.{is_reserved}
-use Rattle.bb_netlist.specs.Order.{HasOrder}
-use Rattle.bb_net.specs.Named.{Named, IsNamed, IsByBits, design_of}
-use Rattle.bb_elab.specs.Denotes.{ElaboratesTo}
+use Rattle.bb_base.specs.Order.{HasOrder}
+use Rattle.bb_base.specs.Named.{Named, IsNamed, IsByBits, design_of}
+use Rattle.bb_meaning.specs.Denotes.{ElaboratesTo}
 use Rattle.bb_spell.specs.Canonical.{canonical_text}
 use Rattle.bb_print.specs.Elaborated.{IsElaborable, Restores}
 use Rattle.bb_ctl.specs.OwnNames.{IsOwnName, HasOwnNames}
-use Rattle.bb_ready.specs.Ready.{IsReady}
+use Rattle.bb_named.specs.Ready.{IsReady}
 use Rattle.bb_sample.specs.Sample.{sample_of}
 use Rattle.bb_compile.specs.Made.{IsReadAlone, sample_text}
 

@@ -1,9 +1,9 @@
 -- Why `compile` and `sample` are refused (this project's own).
 use Rattle.std.specs.Prelude.{◌≡◌, ℕ, ◌≤◌, false, List, length, Option}
 use Rattle.bb_base.specs.Variables.{Bit}
-use Rattle.bb_netlist.specs.Order.{IsOrder}
-use Rattle.bb_net.specs.Named.{Named, net_text}
-use Rattle.bb_segment.specs.Cuts.{IsFirstWide}
+use Rattle.bb_base.specs.Order.{IsOrder}
+use Rattle.bb_base.specs.Named.{Named, net_text}
+use Rattle.bb_terms.specs.Cuts.{IsFirstWide}
 use Rattle.bb_code.specs.declared.fault.Need.TheVariants.{Cells, Source}
 use Rattle.bb_words.specs.declared.command.Settings.{Settings}
 use Rattle.bb_choose.specs.Choice.{OfArranged, LacksDegree, LacksCycles, LacksMask}

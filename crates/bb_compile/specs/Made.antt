@@ -1,9 +1,9 @@
 -- What is made of a text, and of a sample netlist (this project's own).
 use Rattle.std.specs.Prelude.{◌≡◌, ℕ, ◌≤◌, false, List, length, Result, Ok}
-use Rattle.bb_netlist.specs.Order.{IsOrder}
-use Rattle.bb_net.specs.Named.{Named, design_of}
+use Rattle.bb_base.specs.Order.{IsOrder}
+use Rattle.bb_base.specs.Named.{Named, design_of}
 use Rattle.bb_fault.specs.declared.fault.ElabFault.{ElabFault}
-use Rattle.bb_elab.specs.Denotes.{ElaboratesTo}
+use Rattle.bb_meaning.specs.Denotes.{ElaboratesTo}
 use Rattle.bb_spell.specs.Canonical.{canonical_text}
 use Rattle.bb_sample.specs.Sample.{sample_of}
 use Rattle.bb_words.specs.declared.command.Settings.{Settings}

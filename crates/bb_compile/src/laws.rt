@@ -1,11 +1,11 @@
 //! Laws about what is made and refused, as contracts of functions that do nothing.
 
 ghost use Rattle.std.specs.Prelude.{◌≡◌, ◌≤◌, ℕ, List, length};
-ghost use Rattle.bb_netlist.specs.Order.{IsOrder};
-ghost use Rattle.bb_net.specs.Named.{Named};
+ghost use Rattle.bb_base.specs.Order.{IsOrder};
+ghost use Rattle.bb_base.specs.Named.{Named};
 ghost use Rattle.bb_words.specs.declared.command.Settings.{Settings as SettingsValue};
 ghost use Rattle.bb_sample.specs.Sample.{sample_of};
-ghost use Rattle.bb_ready.specs.Ready.{IsReady};
+ghost use Rattle.bb_named.specs.Ready.{IsReady};
 ghost use Rattle.bb_choose.specs.Arranged.{AreInRange};
 ghost use Rattle.bb_choose.specs.Enough.{IsEnough};
 ghost use Rattle.bb_make.specs.Artifacts.{ArtifactsValue};
@@ -15,9 +15,8 @@ ghost use Rattle.bb_compile.specs.Made.{IsMade, IsMadeSample, IsReadAlone, sampl
 ghost use Rattle.bb_compile.specs.Causes.{IsRefused, IsSampleRefused};
 
 use bb_choose::{enough_is_chosen, one_arrangement};
-use bb_named::one_end_of;
+use bb_named::{one_end_of, read_netlists_are_ready};
 use bb_print::canonical_elaborates;
-use bb_ready::read_netlists_are_ready;
 use bb_runs::one_order;
 use bb_sample::samples_are_netlists;
 

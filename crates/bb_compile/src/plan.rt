@@ -1,19 +1,20 @@
 //! What is made of a netlist, or why there is no plan for it.
 
 ghost use Rattle.std.specs.Prelude.{◌≡◌, ◌<◌, ℕ, List, Option, length, IfOk, IsErrOf};
-ghost use Rattle.bb_netlist.specs.Order.{IsOrder};
-ghost use Rattle.bb_segment.specs.Cuts.{IsFirstWide};
-ghost use Rattle.bb_ready.specs.Ready.{IsReady};
+ghost use Rattle.bb_base.specs.Order.{IsOrder};
+ghost use Rattle.bb_terms.specs.Cuts.{IsFirstWide};
+ghost use Rattle.bb_named.specs.Ready.{IsReady};
 ghost use Rattle.bb_choose.specs.Arranged.{AreInRange};
 ghost use Rattle.bb_make.specs.Artifacts.{AreArtifacts};
 ghost use Rattle.bb_say.specs.declared.refusal.Refusal.{Refusal as RefusalValue};
 ghost use Rattle.bb_compile.specs.Causes.{IsNameOf, IsWideGate, IsNetlistRefused};
 
-use bb_base::index_of;
+use bb_base::{Name, NetId, index_of};
 use bb_choose::ChoiceFault;
 use bb_code::Need;
 use bb_make::{Artifacts, make};
-use bb_net::{Name, Named, NetId, Order};
+use bb_net::Named;
+use bb_netlist::Order;
 use bb_say::{PlanRefusal, Refusal, Stop};
 use bb_words::Settings;
 use std::alloc::{AllocError, Global};

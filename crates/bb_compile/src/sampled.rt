@@ -1,8 +1,8 @@
 //! What `sample` writes and says.
 
 ghost use Rattle.std.specs.Prelude.{◌≡◌, ◌≤◌, ◌++◌, ◌∷◌, [], codes, IfOk, IsErrOf};
-ghost use Rattle.bb_netlist.specs.Order.{HasOrder, IsOrder};
-ghost use Rattle.bb_net.specs.Named.{design_of};
+ghost use Rattle.bb_base.specs.Order.{HasOrder, IsOrder};
+ghost use Rattle.bb_base.specs.Named.{design_of};
 ghost use Rattle.bb_spell.specs.Canonical.{canonical_text};
 ghost use Rattle.bb_sample.specs.Sample.{sample_of};
 ghost use Rattle.bb_choose.specs.Arranged.{AreInRange};
@@ -15,7 +15,8 @@ use crate::laws::{sample_texts_denote, samples_are_ready};
 use crate::plan::made_of;
 use crate::prepared::{Prepared, file, prepared_behind};
 use bb_make::{Artifacts, Settings};
-use bb_net::{Named, Order, OrderFault, find_order};
+use bb_net::Named;
+use bb_netlist::{Order, OrderFault, find_order};
 use bb_print::print;
 use bb_read::File;
 use bb_sample::sample;

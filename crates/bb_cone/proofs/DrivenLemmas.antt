@@ -3,9 +3,9 @@ use Rattle.std.proofs.Common.{◌≡◌, ℕ, ◌||◌, Bool, true, false, List,
 use Rattle.std.specs.List.{AllByRecursion, list_any}
 use Rattle.std.proofs.lemmas.List.Sorted.{Contains-permutation, IsPermutation-sym}
 use Rattle.bb_base.proofs.Contained.{of_all, to_all}
-use Rattle.bb_netlist.specs.Net.{Gate}
-use Rattle.bb_segment.specs.Paths.{is_free}
-use Rattle.bb_segment.specs.Cuts.{AreTurns, AreCuts}
+use Rattle.bb_base.specs.Net.{Gate}
+use Rattle.bb_terms.specs.Paths.{is_free}
+use Rattle.bb_terms.specs.Cuts.{AreTurns, AreCuts}
 
 driven_of : (a b : Bool) → (a || b) ≡ false → a ≡ false
 driven_of true b e = e

@@ -4,15 +4,15 @@ use Rattle.std.specs.Prelude.{All}
 use Rattle.std.specs.List.{list_any}
 use Rattle.std.specs.List.Sorted.{IsStrictlyIncreasing}
 use Rattle.std.proofs.lemmas.List.Elements.{All-contains}
-use Rattle.bb_netlist.specs.Net.{Gate}
-use Rattle.bb_netlist.specs.Levels.{AreGates}
-use Rattle.bb_netlist.specs.Order.{IsOrder}
-use Rattle.bb_segment.specs.Paths.{is_free, Start, AtNet, Behind, IsLeaf}
-use Rattle.bb_segment.specs.Support.{AreLeaves}
-use Rattle.bb_segment.specs.Cuts.{StandsAt, is_stop_with, IsTooWide}
+use Rattle.bb_base.specs.Net.{Gate}
+use Rattle.bb_base.specs.Levels.{AreGates}
+use Rattle.bb_base.specs.Order.{IsOrder}
+use Rattle.bb_terms.specs.Paths.{is_free, Start, AtNet, Behind, IsLeaf}
+use Rattle.bb_terms.specs.Support.{AreLeaves}
+use Rattle.bb_terms.specs.Cuts.{StandsAt, is_stop_with, IsTooWide}
 use Rattle.bb_cone.specs.Cutting.{table_entry, IsUnion, IsWalked}
 use Rattle.bb_base.proofs.Contained.{here, either, none_in}
-use Rattle.bb_segment.proofs.FunctionLemmas.{driver_of}
+use Rattle.bb_terms.proofs.FunctionLemmas.{driver_of}
 use Rattle.bb_segment.proofs.LeafLemmas.{at_stop, behind_gate, at_open}
 use Rattle.bb_segment.proofs.SupportLemmas.{one_support}
 use Rattle.bb_cone.proofs.PlaceLemmas.{gate_of, place_for, one_gate, earlier}

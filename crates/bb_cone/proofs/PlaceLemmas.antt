@@ -7,12 +7,12 @@ use Rattle.std.specs.Prelude.{All}
 use Rattle.std.proofs.lemmas.Option.{slice_get_within, slice_get-get_or}
 use Rattle.std.proofs.lemmas.List.Sorted.{Contains-permutation, length_permutation, All-permutation}
 use Rattle.std.proofs.lemmas.List.FromFn.{length-range_with_len, get_or-range_with_len}
-use Rattle.bb_netlist.specs.Net.{Gate, Netlist, driven, IsNetlist}
-use Rattle.bb_netlist.proofs.GateLemmas.{gates_fit}
-use Rattle.bb_netlist.specs.Levels.{AreGates}
-use Rattle.bb_netlist.specs.Order.{IsOrder}
-use Rattle.bb_netlist.proofs.CycleLemmas.{follows}
-use Rattle.bb_segment.specs.Cuts.{StandsAt, IsFirstWide}
+use Rattle.bb_base.specs.Net.{Gate, Netlist, driven, IsNetlist}
+use Rattle.bb_base.proofs.GateLemmas.{gates_fit}
+use Rattle.bb_base.specs.Levels.{AreGates}
+use Rattle.bb_base.specs.Order.{IsOrder}
+use Rattle.bb_base.proofs.CycleLemmas.{follows}
+use Rattle.bb_terms.specs.Cuts.{StandsAt, IsFirstWide}
 use Rattle.bb_base.proofs.Contained.{place_of, contains_at}
 use Rattle.bb_segment.proofs.SetLemmas.{in_range}
 

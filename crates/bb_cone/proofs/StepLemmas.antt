@@ -6,13 +6,13 @@ use Rattle.std.specs.Set.{distinct_count}
 use Rattle.std.proofs.lemmas.Grind.{common_steps}
 use Rattle.std.proofs.lemmas.Bool.Decides.{nat_tests}
 use Rattle.std.proofs.lemmas.List.Sums.{sum_by-set}
-use Rattle.bb_netlist.specs.Net.{Gate}
-use Rattle.bb_netlist.specs.Levels.{AreGates}
-use Rattle.bb_netlist.specs.Order.{IsOrder}
-use Rattle.bb_segment.specs.Paths.{is_free, AtNet, Behind}
-use Rattle.bb_segment.specs.Support.{stop_at, AreLeaves}
+use Rattle.bb_base.specs.Net.{Gate}
+use Rattle.bb_base.specs.Levels.{AreGates}
+use Rattle.bb_base.specs.Order.{IsOrder}
+use Rattle.bb_terms.specs.Paths.{is_free, AtNet, Behind}
+use Rattle.bb_terms.specs.Support.{stop_at, AreLeaves}
 use Rattle.bb_segment.specs.Walks.{HasMore}
-use Rattle.bb_segment.specs.Cuts.{StandsAt, is_stop_with, HasSupport, IsTooWide, IsCutRather, IsNextCut, AreTurns, AreCuts}
+use Rattle.bb_terms.specs.Cuts.{StandsAt, is_stop_with, HasSupport, IsTooWide, IsCutRather, IsNextCut, AreTurns, AreCuts}
 use Rattle.bb_cone.specs.Cutting.{table_entry, IsUnion, is_rather, IsWidest, AreReadersAt, IsWalked, IsCutting, queue_front, weight}
 use Rattle.bb_base.proofs.BooleanLemmas.{or_true, or_false}
 use Rattle.bb_base.proofs.Contained.{here, there, either, none_in}

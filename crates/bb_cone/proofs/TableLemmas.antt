@@ -13,9 +13,9 @@ use Rattle.std.proofs.lemmas.Map.Lookups.{exact_unsigned}
 use Rattle.std.proofs.lemmas.List.Kept.{Contains-dedup_nat, Contains-from_dedup}
 use Rattle.std.proofs.lemmas.List.Sorted.{Contains-permutation, IsPermutation-sym}
 use Rattle.std.proofs.lemmas.List.Elements.{Contains-push, Contains-push_cases, Contains-append_left, Contains-append_right, Contains-append_cases}
-use Rattle.bb_netlist.specs.Net.{Gate}
+use Rattle.bb_base.specs.Net.{Gate}
 use Rattle.bb_segment.specs.Walks.{HasMore}
-use Rattle.bb_segment.specs.Cuts.{StandsAt}
+use Rattle.bb_terms.specs.Cuts.{StandsAt}
 use Rattle.bb_cone.specs.Cutting.{table_entry, IsSetOf, AreGathered, IsUnion, is_rather, IsWidest, AreReadersAt}
 use Rattle.bb_base.proofs.Contained.{here, there, either, none_in}
 use Rattle.bb_cone.proofs.PlaceLemmas.{one_at}

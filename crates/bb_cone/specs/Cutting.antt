@@ -1,9 +1,9 @@
 -- How cuts are found: entries of nets, and the places of gates whose entries are still to be settled. No public contract cites this.
 use Rattle.std.specs.Prelude.{◌≡◌, ◌≢◌, ◌↔◌, ◌||◌, ◌&&◌, ◌==◌, ◌+◌, ◌*◌, ◌-◌, ℕ, ◌<◌, ◌≤◌, Bool, true, false, List, [], ◌∷◌, ◌++◌, length, count_by, not, nat_lt, nat_le, slice_index_or, AllPairs, Contains}
 use Rattle.std.specs.List.Sorted.{IsStrictlyIncreasing}
-use Rattle.bb_netlist.specs.Net.{Gate}
-use Rattle.bb_segment.specs.Support.{stop_at}
-use Rattle.bb_segment.specs.Cuts.{StandsAt, is_stop_with, AreTurns}
+use Rattle.bb_base.specs.Net.{Gate}
+use Rattle.bb_terms.specs.Support.{stop_at}
+use Rattle.bb_terms.specs.Cuts.{StandsAt, is_stop_with, AreTurns}
 
 -- the entry of a net
 abbrev pub table_entry : List (List ℕ) → ℕ → List ℕ

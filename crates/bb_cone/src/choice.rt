@@ -5,17 +5,18 @@ ghost use Rattle.std.specs.List.{AllByRecursion};
 ghost use Rattle.std.specs.Set.{distinct_count};
 ghost use Rattle.std.specs.List.Sorted.{IsPermutation, IsSorted};
 ghost use Rattle.std.specs.Ordering.{nat_cmp};
-ghost use Rattle.bb_netlist.specs.Net.{Gate as GateValue};
-ghost use Rattle.bb_netlist.specs.Order.{IsOrder};
-ghost use Rattle.bb_segment.specs.Paths.{Behind, is_free};
-ghost use Rattle.bb_segment.specs.Support.{AreLeaves};
-ghost use Rattle.bb_segment.specs.Cuts.{AreCuts, IsFirstWide, is_stop_with};
+ghost use Rattle.bb_base.specs.Net.{Gate as GateValue};
+ghost use Rattle.bb_base.specs.Order.{IsOrder};
+ghost use Rattle.bb_terms.specs.Paths.{Behind, is_free};
+ghost use Rattle.bb_terms.specs.Support.{AreLeaves};
+ghost use Rattle.bb_terms.specs.Cuts.{AreCuts, IsFirstWide, is_stop_with};
 
 use crate::CutFault;
 use crate::cutting::{first_state, run};
 use crate::readers::readers_of;
 use crate::sets::check_widths;
-use bb_netlist::{NetId, Netlist, Order};
+use bb_base::{NetId, Netlist};
+use bb_netlist::Order;
 use std::alloc::{AllocError, Global};
 
 /// The nets of some numbers.

@@ -5,19 +5,19 @@
 
 ghost use Rattle.std.specs.Prelude.{◌≡◌, ◌<◌, ◌≤◌, ◌^◌, ◌++◌, ◌∷◌, ◌+◌, ◌*◌, ◌-◌, [], ℕ, true, false, length, slice_set, All, AllPairs, Contains, IfOk, OnOk, Some, None, slice_get, nat_eq, if◌then◌else◌};
 ghost use Rattle.std.specs.Set.{distinct_count};
-ghost use Rattle.bb_netlist.specs.Net.{Gate as GateValue, driven};
-ghost use Rattle.bb_netlist.specs.Levels.{AreGates};
-ghost use Rattle.bb_netlist.specs.Order.{IsOrder};
-ghost use Rattle.bb_segment.specs.Paths.{is_free};
-ghost use Rattle.bb_segment.specs.Support.{stop_at};
+ghost use Rattle.bb_base.specs.Net.{Gate as GateValue, driven};
+ghost use Rattle.bb_base.specs.Levels.{AreGates};
+ghost use Rattle.bb_base.specs.Order.{IsOrder};
+ghost use Rattle.bb_terms.specs.Paths.{is_free};
+ghost use Rattle.bb_terms.specs.Support.{stop_at};
 ghost use Rattle.bb_segment.specs.Walks.{HasMore};
-ghost use Rattle.bb_segment.specs.Cuts.{StandsAt};
+ghost use Rattle.bb_terms.specs.Cuts.{StandsAt};
 ghost use Rattle.bb_cone.specs.Cutting.{table_entry, AreGathered, IsUnion, IsWidest, is_rather, AreReadersAt, IsCutting, weight};
 
 use crate::readers::Readers;
 use crate::sets::into_set;
 use arrayvec::ArrayVec;
-use bb_netlist::{Gate, NetId};
+use bb_base::{Gate, NetId};
 use bb_segment::is_stop;
 use std::alloc::{AllocError, Global};
 use std::collections::BTreeSet;

@@ -14,6 +14,5 @@ mod fault;
 mod readers;
 mod sets;
 
-pub use bb_segment::{Start, Walk, Wide, support};
 pub use choice::cuts;
 pub use fault::CutFault;

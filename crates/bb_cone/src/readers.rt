@@ -1,12 +1,12 @@
 //! The gates that read each net, by their places in the order.
 
 ghost use Rattle.std.specs.Prelude.{◌≡◌, ◌<◌, ◌^◌, ◌⊎◌, ◌++◌, ◌∷◌, [], ℕ, length, Contains, IfOk, OnOk, Some, slice_get};
-ghost use Rattle.bb_netlist.specs.Net.{Gate as GateValue};
-ghost use Rattle.bb_netlist.specs.Levels.{AreGates};
-ghost use Rattle.bb_netlist.specs.Order.{IsOrder};
+ghost use Rattle.bb_base.specs.Net.{Gate as GateValue};
+ghost use Rattle.bb_base.specs.Levels.{AreGates};
+ghost use Rattle.bb_base.specs.Order.{IsOrder};
 ghost use Rattle.bb_cone.specs.Cutting.{table_entry, AreReadersAt};
 
-use bb_netlist::{Gate, NetId};
+use bb_base::{Gate, NetId};
 use std::alloc::{AllocError, Global};
 use std::marker::Model;
 

@@ -4,13 +4,13 @@ ghost use Rattle.std.specs.Prelude.{◌≡◌, ◌<◌, ◌≤◌, ◌^◌, ℕ,
 ghost use Rattle.std.specs.List.Sorted.{IsPermutation, IsSorted};
 ghost use Rattle.std.specs.Set.{distinct_count};
 ghost use Rattle.std.specs.Ordering.{nat_cmp};
-ghost use Rattle.bb_netlist.specs.Net.{Gate as GateValue};
-ghost use Rattle.bb_netlist.specs.Levels.{AreGates};
-ghost use Rattle.bb_segment.specs.Cuts.{IsFirstWide};
+ghost use Rattle.bb_base.specs.Net.{Gate as GateValue};
+ghost use Rattle.bb_base.specs.Levels.{AreGates};
+ghost use Rattle.bb_terms.specs.Cuts.{IsFirstWide};
 ghost use Rattle.bb_cone.specs.Cutting.{IsSetOf};
 
 use crate::CutFault;
-use bb_netlist::{Gate, NetId};
+use bb_base::{Gate, NetId};
 use std::alloc::{AllocError, Global};
 
 /// The numbers in ascending order, each once.

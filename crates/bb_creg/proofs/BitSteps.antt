@@ -4,14 +4,14 @@ use Rattle.std.proofs.lemmas.Bool.Decides.{nat_tests}
 use Rattle.std.proofs.Math.Nat.{pow-suc, div-add-mod, mod-lt}
 use Rattle.std.proofs.lemmas.Nat.{mod-mul-add, pow_pos}
 use Rattle.bb_base.specs.Booleans.{xor, some_true}
-use Rattle.bb_gf2.specs.Bits.{bits, from_bits}
-use Rattle.bb_gf2.specs.Parity.{code_bit, code_of_bits}
+use Rattle.bb_base.specs.Bits.{bits, from_bits}
+use Rattle.bb_base.specs.Parity.{code_bit, code_of_bits}
 use Rattle.bb_gf2.proofs.Codes.{low_bit, xor_half, xor_low}
 use Rattle.bb_gf2.proofs.BitLaws.{code_of_bits-bits, bits-from_bits}
 use Rattle.bb_gf2.proofs.Pairing.{from_bits_below}
-use Rattle.bb_creg.specs.Register.{IsFullPeriod, feedback, next_state, state_after}
-use Rattle.bb_creg.specs.OnBits.{shifted, front, zeros, feedback_bit, next_bits, bits_after}
-use Rattle.bb_creg.specs.Signature.{xor_each, signature_step, next_signature}
+use Rattle.bb_terms.specs.Register.{IsFullPeriod, feedback, next_state, state_after}
+use Rattle.bb_terms.specs.OnBits.{shifted, front, zeros, feedback_bit, next_bits, bits_after}
+use Rattle.bb_terms.specs.Signature.{xor_each, signature_step, next_signature}
 use Rattle.bb_creg.proofs.Orbit.{state_below}
 
 -- the bits of a number without its highest, behind a new lowest: the number doubled

@@ -3,11 +3,11 @@ use Rattle.std.proofs.Common.{◌≡◌, ℕ, ◌+◌, ◌*◌, ◌/◌, ◌%◌
 use Rattle.std.proofs.lemmas.Bool.Decides.{nat_tests}
 use Rattle.std.proofs.Math.Nat.{pow-suc, div-div-eq-div-mul}
 use Rattle.std.proofs.lemmas.Nat.{pow_pos, shr_split}
-use Rattle.bb_gf2.specs.Bits.{bits}
+use Rattle.bb_base.specs.Bits.{bits}
 use Rattle.bb_base.specs.Booleans.{some_true}
 use Rattle.bb_gf2.proofs.Codes.{low_bit}
-use Rattle.bb_creg.specs.Register.{IsMask, IsFullPeriod, next_state, state_after}
-use Rattle.bb_creg.specs.OnBits.{last_of, at_last, bits_after}
+use Rattle.bb_terms.specs.Register.{IsMask, IsFullPeriod, next_state, state_after}
+use Rattle.bb_terms.specs.OnBits.{last_of, at_last, bits_after}
 use Rattle.bb_creg.proofs.Injective.{next_injective, next_of_last}
 use Rattle.bb_creg.proofs.Orbit.{state_below, round, late_from_full, first_return, first_return_from_full}
 use Rattle.bb_creg.proofs.BitSteps.{shifted_bits, none_below, bits-state}

@@ -5,10 +5,10 @@ use Rattle.std.proofs.lemmas.Bool.Decides.{nat_tests}
 use Rattle.std.proofs.lemmas.Nat.{and_block, and_le_l, ones_cat, mod_low, pow_pos, shr_split}
 use Rattle.std.proofs.Math.Nat.{pow-suc}
 use Rattle.bb_base.specs.Booleans.{xor}
-use Rattle.bb_gf2.specs.Parity.{parity, code_bit}
+use Rattle.bb_base.specs.Parity.{parity, code_bit}
 use Rattle.bb_gf2.proofs.Xor.{xor_self_bits, xor_assoc_bits, xor_comm_bits}
 use Rattle.bb_gf2.proofs.Codes.{odd_sum, parity_step, parity_zero, code_zero_state}
-use Rattle.bb_creg.specs.Register.{IsMask, feedback, next_state}
+use Rattle.bb_terms.specs.Register.{IsMask, feedback, next_state}
 
 -- a bit as a number
 abbrev pub digit : Bool → ℕ

@@ -2,6 +2,5 @@ pub mod Injective
 pub mod Orbit
 pub mod WalkSteps
 pub mod BitSteps
-pub mod Growth
 pub mod Linear
 pub mod Ending

@@ -2,12 +2,12 @@
 use Rattle.std.proofs.Common.{◌≡◌, ℕ, ◌/◌, ◌%◌, ◌==◌, zero, suc, List, [], ◌∷◌, length, fold, Bool, true, false, if◌then◌else◌, refl, sym, ap, ◌∙◌, arith}
 use Rattle.std.specs.List.{AllByRecursion}
 use Rattle.bb_base.specs.Booleans.{xor, parity_of_bits}
-use Rattle.bb_gf2.specs.Bits.{picked}
-use Rattle.bb_gf2.specs.Parity.{code_of_bits}
+use Rattle.bb_base.specs.Bits.{picked}
+use Rattle.bb_base.specs.Parity.{code_of_bits}
 use Rattle.bb_gf2.proofs.Xor.{swap_xor}
-use Rattle.bb_creg.specs.OnBits.{shifted, zeros}
-use Rattle.bb_creg.specs.Signature.{xor_each, xor_cycles, signature_step, signature}
-use Rattle.bb_creg.proofs.Growth.{length_zeros, length_step}
+use Rattle.bb_terms.specs.OnBits.{shifted, zeros}
+use Rattle.bb_terms.specs.Signature.{xor_each, xor_cycles, signature_step, signature}
+use Rattle.bb_terms.proofs.Growth.{length_zeros, length_step}
 
 swap_each : (a b c d : List Bool) → xor_each (xor_each a b) (xor_each c d) ≡ xor_each (xor_each a c) (xor_each b d)
 swap_each [] b c d = refl

@@ -6,13 +6,13 @@ use Rattle.std.proofs.lemmas.Map.Keys.{IsDistinct-cons}
 use Rattle.std.proofs.lemmas.Map.Steps.{length-le_from_distinct_below, le-length_from_below}
 use Rattle.std.proofs.lemmas.Nat.{pow_pos}
 use Rattle.std.proofs.Math.Nat.{pow-suc}
-use Rattle.bb_gf2.specs.Bits.{from_bits}
-use Rattle.bb_gf2.specs.Parity.{code_word}
-use Rattle.bb_gf2.specs.Span.{combined}
-use Rattle.bb_gf2.specs.Dual.{AreDuals}
+use Rattle.bb_base.specs.Bits.{from_bits}
+use Rattle.bb_base.specs.Parity.{code_word}
+use Rattle.bb_base.specs.Span.{combined}
+use Rattle.bb_base.specs.Dual.{AreDuals}
 use Rattle.bb_gf2.proofs.Existence.{state_codes, combined_below}
-use Rattle.bb_creg.specs.Register.{IsMask, IsFullPeriod, next_state, state_after}
-use Rattle.bb_creg.specs.Walk.{IsAway, IsFirstReturn}
+use Rattle.bb_terms.specs.Register.{IsMask, IsFullPeriod, next_state, state_after}
+use Rattle.bb_terms.specs.Walk.{IsAway, IsFirstReturn}
 use Rattle.bb_creg.proofs.Injective.{next_below, next_injective, next_of_last}
 
 pub state_below : (k m t : ℕ) → state_after k m t < 2 ^ k

@@ -6,9 +6,9 @@ use Rattle.std.proofs.lemmas.Bool.{cases_lt}
 use Rattle.std.proofs.lemmas.Nat.{one_shl, and_mask}
 use Rattle.std.proofs.Math.Nat.{pow-suc}
 use Rattle.bb_base.specs.Booleans.{xor}
-use Rattle.bb_gf2.specs.Parity.{code_bit}
-use Rattle.bb_creg.specs.Register.{next_state, state_after}
-use Rattle.bb_creg.specs.Walk.{IsAway}
+use Rattle.bb_base.specs.Parity.{code_bit}
+use Rattle.bb_terms.specs.Register.{next_state, state_after}
+use Rattle.bb_terms.specs.Walk.{IsAway}
 
 pub size_is : (k : ℕ) → k ≤ 31 → 1 * 2 ^ k % 2 ^ 32 ≡ 2 ^ k
 size_is k most = one_shl k 32 (omega (arith, most))

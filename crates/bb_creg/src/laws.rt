@@ -2,13 +2,13 @@
 
 ghost use Rattle.std.specs.Prelude.{◌≡◌, ◌<◌, ◌≤◌, ◌^◌, ◌+◌, ◌==◌, ◌++◌, ◌∷◌, [], suc, ℕ, List, Bool, length, slice_index};
 ghost use Rattle.std.specs.List.{AllByRecursion};
-ghost use Rattle.bb_gf2.specs.Bits.{bits};
-ghost use Rattle.bb_gf2.specs.Parity.{code_word};
-ghost use Rattle.bb_gf2.specs.Dual.{AreDuals};
-ghost use Rattle.bb_creg.specs.Register.{IsMask, IsFullPeriod, next_state, state_after};
-ghost use Rattle.bb_creg.specs.Walk.{IsFirstReturn};
-ghost use Rattle.bb_creg.specs.OnBits.{next_bits, bits_after, at_last};
-ghost use Rattle.bb_creg.specs.Signature.{signature_step, signature, next_signature, xor_each, xor_cycles};
+ghost use Rattle.bb_base.specs.Bits.{bits};
+ghost use Rattle.bb_base.specs.Parity.{code_word};
+ghost use Rattle.bb_base.specs.Dual.{AreDuals};
+ghost use Rattle.bb_terms.specs.Register.{IsMask, IsFullPeriod, next_state, state_after};
+ghost use Rattle.bb_terms.specs.Walk.{IsFirstReturn};
+ghost use Rattle.bb_terms.specs.OnBits.{next_bits, bits_after, at_last};
+ghost use Rattle.bb_terms.specs.Signature.{signature_step, signature, next_signature, xor_each, xor_cycles};
 
 /// A walk is full exactly where it first returns to 0 after 2^degree steps, and no two states have
 /// one next state.

@@ -14,9 +14,8 @@
 //!   States and signatures keep their register's length (`keeps_length`).
 //! - No call takes memory.
 //!
-//! Not promised: that each degree has a mask of full period. `specs/Register.antt` has the register,
-//! `specs/Walk.antt` its walk, `specs/OnBits.antt` the same on lists of bits, and
-//! `specs/Signature.antt` the signature.
+//! Not promised: that each degree has a mask of full period. `bb_terms` has the definitions: `specs/Register.antt` the register,
+//! `specs/Walk.antt` its walk, `specs/OnBits.antt` the same on lists of bits, and `specs/Signature.antt` the signature.
 #![tactic(auto)]
 
 mod laws;

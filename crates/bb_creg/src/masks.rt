@@ -2,7 +2,7 @@
 
 ghost use Rattle.std.specs.Prelude.{◌≡◌, ℕ, OnErr, IfOk, IfErr};
 ghost use Rattle.bb_base.specs.Firsts.{IsLeast};
-ghost use Rattle.bb_creg.specs.Register.{IsDegree, IsFullMask};
+ghost use Rattle.bb_terms.specs.Register.{IsDegree, IsFullMask};
 
 use crate::walks::walk;
 

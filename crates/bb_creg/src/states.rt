@@ -1,7 +1,7 @@
 // The step of a complete register.
 
 ghost use Rattle.std.specs.Prelude.{◌≡◌, ◌<◌, ◌^◌};
-ghost use Rattle.bb_creg.specs.Register.{IsDegree, IsMask, next_state};
+ghost use Rattle.bb_terms.specs.Register.{IsDegree, IsMask, next_state};
 
 use bb_gf2::code_bit;
 

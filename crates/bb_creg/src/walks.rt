@@ -3,8 +3,8 @@
 // states as there are, and nothing has to be marked.
 
 ghost use Rattle.std.specs.Prelude.{◌≡◌, ◌<◌, ◌^◌, OnOk, OnErr, IfOk, IfErr};
-ghost use Rattle.bb_creg.specs.Register.{IsDegree, IsMask, IsFullPeriod};
-ghost use Rattle.bb_creg.specs.Walk.{IsFirstReturn};
+ghost use Rattle.bb_terms.specs.Register.{IsDegree, IsMask, IsFullPeriod};
+ghost use Rattle.bb_terms.specs.Walk.{IsFirstReturn};
 
 use crate::states::next;
 use std::marker::Model;
@@ -18,7 +18,7 @@ pub struct Full {
 
 // Contracts see the degree and the mask.
 impl Model for Full {
-    ghost use Rattle.bb_creg.specs.Walk.{Taps, IsFullWalk};
+    ghost use Rattle.bb_terms.specs.Walk.{Taps, IsFullWalk};
 
     ghost Value = { Taps };
 

@@ -6,18 +6,18 @@ use Rattle.std.proofs.Math.Nat.{pow-suc}
 use Rattle.std.specs.List.{AllByRecursion}
 use Rattle.bb_base.proofs.Contained.{by_place}
 use Rattle.bb_base.proofs.Lists.{all_join}
-use Rattle.bb_netlist.specs.Net.{Gate, Netlist, HasArity}
-use Rattle.bb_gf2.specs.Bits.{picked}
-use Rattle.bb_creg.specs.OnBits.{last_of, front}
-use Rattle.bb_creg.specs.Register.{IsMask}
-use Rattle.bb_rules.specs.Plan.{PlanValue, RegisterValue, sessions_of}
-use Rattle.bb_rules.specs.Rules.{Frame, Registers, IsFrame, IsRegister}
-use Rattle.bb_rules.specs.Valid.{IsValidPlan}
-use Rattle.bb_ctl.specs.declared.wire.Wire.{Wire}
-use Rattle.bb_ctl.specs.declared.wire.Wire.TheVariants.{Test}
-use Rattle.bb_ctl.specs.Reads.{qs_from}
-use Rattle.bb_ctl.specs.Controller.{word_from, register_word, word_ahead, word_rows, low_row, start_rows, feed_rows, phase_rows, ring_rows, ring_rows_from, cycle_rows, out_row, last_q, controller}
-use Rattle.bb_ctl.specs.Registers.{pass_row, carry_row, rows_of_register, registers_from, control_rows}
+use Rattle.bb_base.specs.Net.{Gate, Netlist, HasArity}
+use Rattle.bb_base.specs.Bits.{picked}
+use Rattle.bb_terms.specs.OnBits.{last_of, front}
+use Rattle.bb_terms.specs.Register.{IsMask}
+use Rattle.bb_terms.specs.Plan.{PlanValue, RegisterValue, sessions_of}
+use Rattle.bb_terms.specs.Rules.{Frame, Registers, IsFrame, IsRegister}
+use Rattle.bb_terms.specs.Valid.{IsValidPlan}
+use Rattle.bb_terms.specs.declared.wire.Wire.{Wire}
+use Rattle.bb_terms.specs.declared.wire.Wire.TheVariants.{Test}
+use Rattle.bb_terms.specs.Reads.{qs_from}
+use Rattle.bb_terms.specs.Controller.{word_from, register_word, word_ahead, word_rows, low_row, start_rows, feed_rows, phase_rows, ring_rows, ring_rows_from, cycle_rows, out_row, last_q, controller}
+use Rattle.bb_terms.specs.Registers.{pass_row, carry_row, rows_of_register, registers_from, control_rows}
 use Rattle.bb_ctl.proofs.ChainLemmas.{qs_long}
 
 -- a mask that is not 0 picks some of its items

@@ -1,13 +1,13 @@
 -- The bits of the chain's cells, register after register.
 use Rattle.std.proofs.Common.{◌≡◌, ℕ, zero, suc, ◌+◌, ◌≤◌, ◌++◌, List, [], ◌∷◌, length, map, take, drop, slice_get, Option, Some, None, refl, sym, ap, ◌∙◌, arith, append_assoc, append-nil, length-append}
-use Rattle.bb_rules.specs.declared.plan.Cell.{Cell}
-use Rattle.bb_rules.specs.Plan.{PlanValue, RegisterValue, chain, sessions_of}
-use Rattle.bb_netlist.specs.Net.{Gate}
-use Rattle.bb_creg.specs.OnBits.{last_of}
-use Rattle.bb_rules.proofs.ChainLemmas.{cells_of}
-use Rattle.bb_ctl.specs.declared.wire.Wire.{Wire}
-use Rattle.bb_ctl.specs.Reads.{q_of, qs_from}
-use Rattle.bb_ctl.specs.Registers.{rows_of_register, registers_from}
+use Rattle.bb_terms.specs.declared.plan.Cell.{Cell}
+use Rattle.bb_terms.specs.Plan.{PlanValue, RegisterValue, chain, sessions_of}
+use Rattle.bb_base.specs.Net.{Gate}
+use Rattle.bb_terms.specs.OnBits.{last_of}
+use Rattle.bb_terms.proofs.ChainLemmas.{cells_of}
+use Rattle.bb_terms.specs.declared.wire.Wire.{Wire}
+use Rattle.bb_terms.specs.Reads.{q_of, qs_from}
+use Rattle.bb_terms.specs.Registers.{rows_of_register, registers_from}
 
 -- the bits of cells one behind the other
 pub qs_join : (i : ℕ) (xs ys : List Cell) → qs_from i (xs ++ ys) ≡ qs_from i xs ++ qs_from (i + length xs) ys

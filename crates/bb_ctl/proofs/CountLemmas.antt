@@ -5,17 +5,17 @@ use Rattle.std.proofs.Math.Seq.{take-length}
 use Rattle.std.specs.List.{flat_map}
 use Rattle.bb_base.specs.Places.{EachAt}
 use Rattle.bb_base.proofs.Lists.{get_some}
-use Rattle.bb_netlist.specs.Net.{Gate, Netlist}
-use Rattle.bb_creg.specs.OnBits.{shifted, last_of}
-use Rattle.bb_rules.specs.Plan.{PlanValue, RegisterValue, chain, sessions_of}
-use Rattle.bb_rules.specs.Rules.{Frame, Registers, Sessions, Room, IsSession}
-use Rattle.bb_rules.specs.Valid.{IsValidPlan}
-use Rattle.bb_ctl.specs.declared.wire.Wire.{Wire}
-use Rattle.bb_ctl.specs.declared.wire.Wire.TheVariants.{Test, Feed}
-use Rattle.bb_ctl.specs.Reads.{qs_from}
+use Rattle.bb_base.specs.Net.{Gate, Netlist}
+use Rattle.bb_terms.specs.OnBits.{shifted, last_of}
+use Rattle.bb_terms.specs.Plan.{PlanValue, RegisterValue, chain, sessions_of}
+use Rattle.bb_terms.specs.Rules.{Frame, Registers, Sessions, Room, IsSession}
+use Rattle.bb_terms.specs.Valid.{IsValidPlan}
+use Rattle.bb_terms.specs.declared.wire.Wire.{Wire}
+use Rattle.bb_terms.specs.declared.wire.Wire.TheVariants.{Test, Feed}
+use Rattle.bb_terms.specs.Reads.{qs_from}
 use Rattle.bb_ctl.specs.Numbers.{HasNumbers}
-use Rattle.bb_ctl.specs.Controller.{word_from, register_word, word_ahead, word_rows, phase_rows, ring_rows, ring_rows_from, cycle_rows, out_row, last_q, controller}
-use Rattle.bb_ctl.specs.Registers.{rows_of_register, registers_from, control_rows}
+use Rattle.bb_terms.specs.Controller.{word_from, register_word, word_ahead, word_rows, phase_rows, ring_rows, ring_rows_from, cycle_rows, out_row, last_q, controller}
+use Rattle.bb_terms.specs.Registers.{rows_of_register, registers_from, control_rows}
 
 -- lists that each have an item are no more than their items
 no_more : {X Y : Type 0} (f : X → List Y) (xs : List X) → ((i : ℕ) (x : X) → slice_get xs i ≡ Some x → 1 ≤ length (f x)) → length xs ≤ length (flat_map f xs)

@@ -12,15 +12,15 @@ use Rattle.bb_base.specs.Variables.{Entry, IsBit, range_width, bit_at, bit_eq}
 use Rattle.bb_base.proofs.BitLemmas.{found_bit}
 use Rattle.bb_base.proofs.Contained.{at_place}
 use Rattle.bb_base.proofs.Lists.{all_parts, get_some, length_map, map_join}
-use Rattle.bb_netlist.specs.Net.{Gate, renamed_gate}
-use Rattle.bb_netlist.specs.Faults.{IsGateFault, IsNetCallFault}
-use Rattle.bb_netlist.specs.declared.fault.NetFault.{NetFault}
-use Rattle.bb_netlist.specs.declared.fault.NetFault.TheVariants.{Redeclared, TwoDrivers, Undriven, BadArity, TooMany, NoMemory}
-use Rattle.bb_net.specs.Named.{Named, lookup_of}
-use Rattle.bb_net.specs.Building.{find_of, with_net, with_gates}
-use Rattle.bb_ctl.specs.declared.wire.Wire.{Wire}
-use Rattle.bb_ctl.specs.Wires.{symbol_name}
-use Rattle.bb_ctl.specs.Numbering.{kept_of, found_net, net_by, net_for, net_at, number_or_zero, wires_in, HasWire, HasDistinctNets}
+use Rattle.bb_base.specs.Net.{Gate, renamed_gate}
+use Rattle.bb_base.specs.Faults.{IsGateFault, IsNetCallFault}
+use Rattle.bb_base.specs.declared.fault.NetFault.{NetFault}
+use Rattle.bb_base.specs.declared.fault.NetFault.TheVariants.{Redeclared, TwoDrivers, Undriven, BadArity, TooMany, NoMemory}
+use Rattle.bb_base.specs.Named.{Named, lookup_of}
+use Rattle.bb_base.specs.Building.{find_of, with_net, with_gates}
+use Rattle.bb_terms.specs.declared.wire.Wire.{Wire}
+use Rattle.bb_terms.specs.Wires.{symbol_name}
+use Rattle.bb_terms.specs.Numbering.{kept_of, found_net, net_by, net_for, net_at, number_or_zero, wires_in, HasWire, HasDistinctNets}
 
 -- the first bit of a variable that stands
 width_some : (r : Option (ℕ × ℕ)) → 0 < range_width r

@@ -1,13 +1,13 @@
 -- Rows and bits, one behind the other.
 use Rattle.std.proofs.Common.{◌≡◌, ◌≢◌, ℕ, zero, suc, ◌+◌, ◌-◌, ◌<◌, ◌/◌, ◌%◌, ◌==◌, ◌++◌, List, [], ◌∷◌, length, drop, get_or, Bool, true, false, if◌then◌else◌, refl, sym, ap, ◌∙◌, arith, append_assoc}
 use Rattle.std.proofs.lemmas.Bool.Decides.{nat_tests}
-use Rattle.bb_netlist.specs.Net.{Gate}
-use Rattle.bb_gf2.specs.Bits.{picked}
-use Rattle.bb_creg.specs.OnBits.{shifted, last_of, front}
+use Rattle.bb_base.specs.Net.{Gate}
+use Rattle.bb_base.specs.Bits.{picked}
+use Rattle.bb_terms.specs.OnBits.{shifted, last_of, front}
 use Rattle.bb_base.specs.declared.operator.Op.TheVariants.{And, Xor}
-use Rattle.bb_ctl.specs.declared.wire.Wire.{Wire}
-use Rattle.bb_ctl.specs.declared.wire.Wire.TheVariants.{Word, WordNext, Go, Test, Parity, Low, Feed}
-use Rattle.bb_ctl.specs.Controller.{gate_row, word_from, word_rows, low_row, feed_rows, middle_ring, ring_rows_from}
+use Rattle.bb_terms.specs.declared.wire.Wire.{Wire}
+use Rattle.bb_terms.specs.declared.wire.Wire.TheVariants.{Word, WordNext, Go, Test, Parity, Low, Feed}
+use Rattle.bb_terms.specs.Controller.{gate_row, word_from, word_rows, low_row, feed_rows, middle_ring, ring_rows_from}
 
 -- more items, where these and the rest were all
 pub more : {X : Type 0} (old new xs rest later all : List X) → old ++ rest ≡ all → new ≡ old ++ xs → rest ≡ xs ++ later → new ++ later ≡ all

@@ -2,15 +2,15 @@
 use Rattle.std.proofs.Common.{◌≡◌, ℕ, zero, suc, ◌+◌, ◌++◌, List, [], ◌∷◌, length, map, Option, Some, None, refl, ap, subst, ◌∙◌, arith}
 use Rattle.std.specs.List.{AllByRecursion, range_with_len}
 use Rattle.bb_base.proofs.Lists.{all_front, all_back, all_join, all_map_back, all_parts}
-use Rattle.bb_netlist.specs.Net.{Gate}
-use Rattle.bb_creg.specs.OnBits.{shifted, last_of}
-use Rattle.bb_rules.specs.Plan.{PlanValue, RegisterValue, sessions_of}
-use Rattle.bb_ctl.specs.declared.wire.Wire.{Wire}
-use Rattle.bb_ctl.specs.declared.wire.Wire.TheVariants.{Test, NotTest, Running, Shifting, Feed, WordNext, PhaseNext, RingNext, Latches, Takes, Codes, First}
-use Rattle.bb_ctl.specs.Reads.{qs_from}
-use Rattle.bb_ctl.specs.Controller.{word_from, register_word, word_ahead, word_rows, start_rows, feed_rows, phase_rows, ring_rows, ring_rows_from, cycle_rows, out_row, last_q, controller}
-use Rattle.bb_ctl.specs.Registers.{rows_of_register, registers_from, control_rows}
-use Rattle.bb_ctl.specs.Numbering.{wires_in}
+use Rattle.bb_base.specs.Net.{Gate}
+use Rattle.bb_terms.specs.OnBits.{shifted, last_of}
+use Rattle.bb_terms.specs.Plan.{PlanValue, RegisterValue, sessions_of}
+use Rattle.bb_terms.specs.declared.wire.Wire.{Wire}
+use Rattle.bb_terms.specs.declared.wire.Wire.TheVariants.{Test, NotTest, Running, Shifting, Feed, WordNext, PhaseNext, RingNext, Latches, Takes, Codes, First}
+use Rattle.bb_terms.specs.Reads.{qs_from}
+use Rattle.bb_terms.specs.Controller.{word_from, register_word, word_ahead, word_rows, start_rows, feed_rows, phase_rows, ring_rows, ring_rows_from, cycle_rows, out_row, last_q, controller}
+use Rattle.bb_terms.specs.Registers.{rows_of_register, registers_from, control_rows}
+use Rattle.bb_terms.specs.Numbering.{wires_in}
 use Rattle.bb_ctl.specs.ControlNets.{next_wires, of_registers}
 
 -- it holds of each symbol in a row

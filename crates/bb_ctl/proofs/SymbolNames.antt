@@ -7,10 +7,10 @@ use Rattle.std.specs.List.{AllByRecursion, list_all}
 use Rattle.bb_base.specs.Name.{IsName, IsNameByte, is_name_byte}
 use Rattle.bb_base.proofs.Lists.{all_join}
 use Rattle.bb_base.proofs.OwnNameLemmas.{decimal_plain}
-use Rattle.bb_ctl.specs.declared.wire.Wire.{Wire}
-use Rattle.bb_ctl.specs.declared.wire.Wire.TheVariants.{Kept, Test, Init, So, Done, NotInit, NotTest, Go, NotGo, Parity, Low, Feed, Word, WordNext, Wrap, Phase, PhaseTurned, PhaseNext, Advance, NotAdvance, Ring, RingKept, RingMoved, RingOr, RingNext, NotOver, Live, NotPhase, Running, Shifting, On, Compacts, Latches, Takes, Off, Codes, Feedback, Signed, Carried, First, Line, Chain, Code, Coded, Next, InTest, InNormal, Read, Held}
-use Rattle.bb_ctl.specs.Wires.{wire_label, with_number, symbol_name, IsAdded}
-use Rattle.bb_ctl.specs.Numbering.{kept_of}
+use Rattle.bb_terms.specs.declared.wire.Wire.{Wire}
+use Rattle.bb_terms.specs.declared.wire.Wire.TheVariants.{Kept, Test, Init, So, Done, NotInit, NotTest, Go, NotGo, Parity, Low, Feed, Word, WordNext, Wrap, Phase, PhaseTurned, PhaseNext, Advance, NotAdvance, Ring, RingKept, RingMoved, RingOr, RingNext, NotOver, Live, NotPhase, Running, Shifting, On, Compacts, Latches, Takes, Off, Codes, Feedback, Signed, Carried, First, Line, Chain, Code, Coded, Next, InTest, InNormal, Read, Held}
+use Rattle.bb_terms.specs.Wires.{wire_label, with_number, symbol_name, IsAdded}
+use Rattle.bb_terms.specs.Numbering.{kept_of}
 use Rattle.bb_ctl.proofs.Names.{small_number}
 
 -- 1 to 8 bytes of a name

@@ -7,8 +7,8 @@ use Rattle.std.proofs.lemmas.Bool.Decides.{nat_tests}
 use Rattle.std.proofs.lemmas.List.{take_all}
 use Rattle.std.proofs.lemmas.List.Folds.{list_any-append}
 use Rattle.bb_base.proofs.BooleanLemmas.{or_false}
-use Rattle.bb_creg.specs.OnBits.{last_of}
-use Rattle.bb_rules.specs.Plan.{PlanValue, lists_register, sessions_from}
+use Rattle.bb_terms.specs.OnBits.{last_of}
+use Rattle.bb_terms.specs.Plan.{PlanValue, lists_register, sessions_from}
 use Rattle.bb_ctl.specs.Turns.{ends_with, turn_noted, turns_at, with_turn, AreSessionsOf}
 
 -- the last session, by its place

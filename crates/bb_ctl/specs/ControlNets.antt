@@ -1,13 +1,13 @@
 -- The nets of the controller and of the registers on which cells and flip-flops stand.
 use Rattle.std.specs.Prelude.{◌≡◌, ℕ, ◌+◌, List, ◌∷◌, ◌++◌, length, map}
 use Rattle.std.specs.List.{range_with_len}
-use Rattle.bb_net.specs.Named.{Named}
-use Rattle.bb_rules.specs.Plan.{PlanValue, chain}
-use Rattle.bb_ctl.specs.declared.wire.Wire.{Wire}
-use Rattle.bb_ctl.specs.declared.wire.Wire.TheVariants.{Test, NotTest, Running, Shifting, WordNext, PhaseNext, RingNext, Latches, Takes, Codes, First}
-use Rattle.bb_ctl.specs.Controller.{word_ahead}
-use Rattle.bb_ctl.specs.Reads.{qs_from}
-use Rattle.bb_ctl.specs.Numbering.{net_at}
+use Rattle.bb_base.specs.Named.{Named}
+use Rattle.bb_terms.specs.Plan.{PlanValue, chain}
+use Rattle.bb_terms.specs.declared.wire.Wire.{Wire}
+use Rattle.bb_terms.specs.declared.wire.Wire.TheVariants.{Test, NotTest, Running, Shifting, WordNext, PhaseNext, RingNext, Latches, Takes, Codes, First}
+use Rattle.bb_terms.specs.Controller.{word_ahead}
+use Rattle.bb_terms.specs.Reads.{qs_from}
+use Rattle.bb_terms.specs.Numbering.{net_at}
 
 pub record ControlNetsValue : Type 0 where
   pub test : ℕ

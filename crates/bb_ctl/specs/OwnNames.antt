@@ -2,7 +2,7 @@
 use Rattle.std.specs.Prelude.{◌≡◌, ℕ, ◌<◌, ◌^◌, true, List}
 use Rattle.std.specs.List.{AllByRecursion}
 use Rattle.bb_base.specs.OwnNames.{is_reserved, made_name}
-use Rattle.bb_net.specs.Named.{Named}
+use Rattle.bb_base.specs.Named.{Named}
 
 -- a name that begins as this project's own is that of a made wire
 abbrev pub IsOwnName : List ℕ → Type 0

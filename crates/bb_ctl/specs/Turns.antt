@@ -1,7 +1,7 @@
 -- The sessions of each register, noted one session after the other. No public contract cites this.
 use Rattle.std.specs.Prelude.{◌≡◌, ℕ, ◌<◌, ◌==◌, Bool, false, List, [], ◌∷◌, ◌++◌, length, if◌then◌else◌, slice_index_or}
-use Rattle.bb_creg.specs.OnBits.{last_of}
-use Rattle.bb_rules.specs.Plan.{PlanValue, lists_register, sessions_of}
+use Rattle.bb_terms.specs.OnBits.{last_of}
+use Rattle.bb_terms.specs.Plan.{PlanValue, lists_register, sessions_of}
 
 -- the last session is s
 abbrev pub ends_with : ℕ → List ℕ → Bool

@@ -1,12 +1,11 @@
 //! The bits of cells.
 
 ghost use Rattle.std.specs.Prelude.{◌≡◌, ◌++◌, ◌+◌, ◌<◌, ◌^◌, OnOk, IfOk, length, map, Some};
-ghost use Rattle.bb_creg.specs.OnBits.{last_of};
-ghost use Rattle.bb_rules.specs.Plan.{chain};
-ghost use Rattle.bb_ctl.specs.Reads.{q_of, qs_from};
+ghost use Rattle.bb_terms.specs.OnBits.{last_of};
+ghost use Rattle.bb_terms.specs.Plan.{chain};
+ghost use Rattle.bb_terms.specs.Reads.{q_of, qs_from};
 
-use crate::wire::Wire;
-use bb_rules::{Cell, Kind, Plan};
+use bb_terms::{Cell, Kind, Plan, Wire};
 use std::alloc::{AllocError, Global};
 
 /// The bit of the cell of this number.

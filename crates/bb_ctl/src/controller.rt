@@ -1,14 +1,13 @@
 //! The controller's rows.
 
 ghost use Rattle.std.specs.Prelude.{◌≡◌, ◌++◌, ◌∷◌, [], ◌<◌, ◌^◌, ◌-◌, OnOk, IfOk, length};
-ghost use Rattle.bb_gf2.specs.Bits.{picked};
-ghost use Rattle.bb_creg.specs.OnBits.{shifted, last_of};
-ghost use Rattle.bb_ctl.specs.Controller.{word_from, word_rows, low_row, start_rows, feed_rows, phase_rows, cycle_rows, first_ring, middle_ring, last_ring, ring_rows, ring_rows_from, out_row, last_q, controller};
+ghost use Rattle.bb_base.specs.Bits.{picked};
+ghost use Rattle.bb_terms.specs.OnBits.{shifted, last_of};
+ghost use Rattle.bb_terms.specs.Controller.{word_from, word_rows, low_row, start_rows, feed_rows, phase_rows, cycle_rows, first_ring, middle_ring, last_ring, ring_rows, ring_rows_from, out_row, last_q, controller};
 
 use crate::row::{Row, push_row};
-use crate::wire::Wire;
 use bb_base::Op;
-use bb_rules::Plan;
+use bb_terms::{Plan, Wire};
 use std::alloc::{AllocError, Global};
 
 /// The bits of the complete register.

@@ -1,13 +1,13 @@
 //! Laws about the names of wires and about valid plans, as contracts of functions without a body.
 
 ghost use Rattle.std.specs.Prelude.{◌≡◌, ℕ};
-ghost use Rattle.bb_netlist.specs.Net.{Netlist};
-ghost use Rattle.bb_rules.specs.Plan.{PlanValue};
-ghost use Rattle.bb_rules.specs.Valid.{IsValidPlan};
-ghost use Rattle.bb_ctl.specs.Wires.{symbol_name, IsAdded};
+ghost use Rattle.bb_base.specs.Net.{Netlist};
+ghost use Rattle.bb_terms.specs.Plan.{PlanValue};
+ghost use Rattle.bb_terms.specs.Valid.{IsValidPlan};
+ghost use Rattle.bb_terms.specs.Wires.{symbol_name, IsAdded};
 ghost use Rattle.bb_ctl.specs.Numbers.{HasNumbers};
 
-use crate::wire::Wire;
+use bb_terms::Wire;
 
 /// Different added nets have different names.
 pub fn wires_differ()

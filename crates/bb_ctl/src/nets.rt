@@ -2,24 +2,24 @@
 
 ghost use Rattle.std.specs.Prelude.{◌≡◌, ◌<◌, ◌-◌, ◌^◌, ◌∷◌, [], ℕ, OnOk, IfOk, length, map};
 ghost use Rattle.std.specs.List.{AllByRecursion, range_with_len};
-ghost use Rattle.bb_netlist.specs.Net.{Netlist, renamed_gate};
-ghost use Rattle.bb_net.specs.Building.{with_gates};
-ghost use Rattle.bb_creg.specs.OnBits.{shifted};
-ghost use Rattle.bb_rules.specs.Plan.{chain};
-ghost use Rattle.bb_rules.specs.Valid.{IsValidPlan};
-ghost use Rattle.bb_ctl.specs.Reads.{qs_from};
-ghost use Rattle.bb_ctl.specs.Controller.{word_from, word_ahead};
-ghost use Rattle.bb_ctl.specs.Registers.{control_rows};
+ghost use Rattle.bb_base.specs.Net.{Netlist, renamed_gate};
+ghost use Rattle.bb_base.specs.Building.{with_gates};
+ghost use Rattle.bb_terms.specs.OnBits.{shifted};
+ghost use Rattle.bb_terms.specs.Plan.{chain};
+ghost use Rattle.bb_terms.specs.Valid.{IsValidPlan};
+ghost use Rattle.bb_terms.specs.Reads.{qs_from};
+ghost use Rattle.bb_terms.specs.Controller.{word_from, word_ahead};
+ghost use Rattle.bb_terms.specs.Registers.{control_rows};
 ghost use Rattle.bb_ctl.specs.Numbers.{HasNumbers};
-ghost use Rattle.bb_ctl.specs.Numbering.{net_at, wires_in, HasWire, HasDistinctNets};
+ghost use Rattle.bb_terms.specs.Numbering.{net_at, wires_in, HasWire, HasDistinctNets};
 ghost use Rattle.bb_ctl.specs.ControlNets.{AreControlNets, next_wires, of_registers};
 
 use crate::cells::chain_qs;
 use crate::numbering::{add_rows, net_of, nets_of};
 use crate::registers::control_rows;
-use crate::wire::Wire;
-use bb_net::{Builder, NetId};
-use bb_rules::{Plan, Valid};
+use bb_base::NetId;
+use bb_net::Builder;
+use bb_terms::{Plan, Valid, Wire};
 use std::alloc::{AllocError, Global};
 use std::marker::Model;
 

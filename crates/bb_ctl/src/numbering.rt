@@ -2,15 +2,16 @@
 
 ghost use Rattle.std.specs.Prelude.{◌≡◌, ◌<◌, ◌+◌, ◌-◌, ◌^◌, ◌∷◌, [], ℕ, None, Some, OnOk, IfOk, All, length, map};
 ghost use Rattle.std.specs.List.{AllByRecursion};
-ghost use Rattle.bb_netlist.specs.Net.{renamed_gate, HasArity};
-ghost use Rattle.bb_net.specs.Named.{lookup_of};
-ghost use Rattle.bb_net.specs.Building.{with_gates};
-ghost use Rattle.bb_ctl.specs.Wires.{symbol_name};
-ghost use Rattle.bb_ctl.specs.Numbering.{kept_of, found_net, net_at, wires_in, HasWire, HasDistinctNets};
+ghost use Rattle.bb_base.specs.Net.{renamed_gate, HasArity};
+ghost use Rattle.bb_base.specs.Named.{lookup_of};
+ghost use Rattle.bb_base.specs.Building.{with_gates};
+ghost use Rattle.bb_terms.specs.Wires.{symbol_name};
+ghost use Rattle.bb_terms.specs.Numbering.{kept_of, found_net, net_at, wires_in, HasWire, HasDistinctNets};
 
 use crate::row::Row;
-use crate::wire::Wire;
-use bb_net::{Builder, Name, NetFault, NetId};
+use bb_base::{Name, NetFault, NetId};
+use bb_net::Builder;
+use bb_terms::Wire;
 use std::alloc::{AllocError, Global};
 
 /// The name of an added symbol.

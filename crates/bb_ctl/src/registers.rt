@@ -1,9 +1,9 @@
 //! The registers' rows.
 
 ghost use Rattle.std.specs.Prelude.{◌≡◌, ◌++◌, ◌∷◌, [], ◌<◌, ◌^◌, OnOk, IfOk, None, length, map};
-ghost use Rattle.bb_rules.specs.Plan.{chain};
-ghost use Rattle.bb_ctl.specs.Reads.{qs_from};
-ghost use Rattle.bb_ctl.specs.Registers.{pass_row, carry_row, idle_rows, mode_rows, sign_rows, rows_of_register, registers_from, control_rows};
+ghost use Rattle.bb_terms.specs.Plan.{chain};
+ghost use Rattle.bb_terms.specs.Reads.{qs_from};
+ghost use Rattle.bb_terms.specs.Registers.{pass_row, carry_row, idle_rows, mode_rows, sign_rows, rows_of_register, registers_from, control_rows};
 ghost use Rattle.bb_ctl.specs.Numbers.{HasNumbers};
 ghost use Rattle.bb_ctl.specs.Turns.{AreSessionsOf};
 
@@ -11,9 +11,8 @@ use crate::cells::{chain_qs, last_or};
 use crate::controller::{picked, push_controller};
 use crate::row::{Row, push_row};
 use crate::turns::{Turns, turns_of};
-use crate::wire::Wire;
 use bb_base::Op;
-use bb_rules::Plan;
+use bb_terms::{Plan, Wire};
 use std::alloc::{AllocError, Global};
 
 /// Adds the row of what stands before the first cell of a register that is in no session.

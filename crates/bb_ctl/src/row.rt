@@ -1,8 +1,8 @@
 ghost use Rattle.std.specs.Prelude.{◌≡◌, ◌++◌, ◌∷◌, [], OnOk};
-ghost use Rattle.bb_ctl.specs.Controller.{gate_row};
+ghost use Rattle.bb_terms.specs.Controller.{gate_row};
 
-use crate::wire::Wire;
 use bb_base::Op;
+use bb_terms::Wire;
 use smallvec::SmallVec;
 use std::alloc::{AllocError, Global};
 use std::marker::Model;
@@ -16,8 +16,8 @@ pub struct Row {
 }
 
 impl Model for Row {
-    ghost use Rattle.bb_netlist.specs.Net.{Gate};
-    ghost use Rattle.bb_ctl.specs.declared.wire.Wire.{Wire};
+    ghost use Rattle.bb_base.specs.Net.{Gate};
+    ghost use Rattle.bb_terms.specs.declared.wire.Wire.{Wire};
 
     ghost Value = { Gate Wire };
 

@@ -4,7 +4,7 @@ ghost use Rattle.std.specs.Prelude.{◌≡◌, ◌<◌, ◌^◌, ℕ, [], OnOk, 
 ghost use Rattle.std.specs.List.{AllByRecursion};
 ghost use Rattle.bb_ctl.specs.Turns.{ends_with, turn_noted, turns_at, with_turn, AreSessionsOf};
 
-use bb_rules::Plan;
+use bb_terms::Plan;
 use std::alloc::{AllocError, Global};
 use std::marker::Model;
 

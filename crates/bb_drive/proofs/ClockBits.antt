@@ -4,7 +4,7 @@ use Rattle.std.proofs.lemmas.List.Elements.{recursion_from_All}
 use Rattle.std.specs.List.{AllByRecursion}
 use Rattle.std.specs.Option.{option_or}
 use Rattle.bb_base.specs.Variables.{Entry, is_input, bit_count}
-use Rattle.bb_drive.specs.Work.{Work, Clocked}
+use Rattle.bb_fault.specs.Work.{Work, Clocked}
 use Rattle.bb_drive.specs.Within.{IsWithin, IsFlopWithin}
 use Rattle.bb_drive.specs.Nets.{has_bit, input_bits}
 use Rattle.bb_drive.specs.Clock.{clock_of}

@@ -7,12 +7,12 @@ use Rattle.std.proofs.lemmas.List.Elements.{recursion_from_All, All-from_recursi
 use Rattle.std.specs.Prelude.{Option, find, filter, flat_map, count_by, nat_lt, All}
 use Rattle.std.specs.List.{AllByRecursion, range_with_len}
 use Rattle.std.specs.Option.{option_map, option_or}
-use Rattle.bb_netlist.specs.Net.{Gate}
+use Rattle.bb_base.specs.Net.{Gate}
 use Rattle.bb_base.specs.Variables.{Entry}
 use Rattle.bb_fault.specs.declared.fault.ElabFault.{ElabFault}
 use Rattle.bb_fault.specs.declared.fault.ElabFault.TheVariants.{ClockNotInput, TwoClocks, ClockAsData, TwoDrivers}
 use Rattle.bb_fault.specs.Firsts.{on_some}
-use Rattle.bb_drive.specs.Work.{Work, Clocked}
+use Rattle.bb_fault.specs.Work.{Work, Clocked}
 use Rattle.bb_drive.specs.Within.{IsWithin, IsFlopWithin}
 use Rattle.bb_drive.specs.Nets.{input_bits, output_bits, bits_driven, bits_read, has_bit, nets, bit_text, first_net, two_drivers, undriven, driver_fault}
 use Rattle.bb_drive.specs.Clock.{first_of, copied_by, copied_net, origin_within, origin, clock_pins, clock_not_input, clocks_fault, two_clocks, clock_of, is_clock, read_as_data, clock_as_data, is_data}

@@ -6,7 +6,7 @@ use Rattle.std.specs.Option.{option_map, option_or}
 use Rattle.bb_base.specs.Variables.{Entry}
 use Rattle.bb_fault.specs.declared.fault.ElabFault.{ElabFault}
 use Rattle.bb_fault.specs.declared.fault.ElabFault.TheVariants.{TwoDrivers, Undriven}
-use Rattle.bb_drive.specs.Work.{Work}
+use Rattle.bb_fault.specs.Work.{Work}
 use Rattle.bb_drive.specs.Nets.{bits_driven, bits_read, bit_text, two_drivers, undriven, driver_fault}
 use Rattle.bb_drive.specs.Tallies.{tallies}
 use Rattle.bb_drive.proofs.DriverTests.{first_twice_is, first_undriven_is}

@@ -7,9 +7,9 @@ use Rattle.std.proofs.lemmas.List.Elements.{recursion_from_All}
 use Rattle.std.proofs.lemmas.Result.{IfOk-weaker}
 use Rattle.std.specs.Prelude.{Option, Result, IfOk, find, All}
 use Rattle.std.specs.List.{AllByRecursion}
-use Rattle.bb_drive.specs.Work.{Work}
+use Rattle.bb_fault.specs.Work.{Work}
 use Rattle.bb_drive.specs.Within.{IsWithin, IsGateWithin}
-use Rattle.bb_netlist.specs.Net.{Gate}
+use Rattle.bb_base.specs.Net.{Gate}
 use Rattle.bb_fault.specs.Firsts.{on_some}
 use Rattle.bb_drive.specs.Nets.{has_bit}
 use Rattle.bb_drive.specs.Clock.{is_buf, first_of, copied_by, copied_net, origin_within}

@@ -4,9 +4,9 @@ use Rattle.std.proofs.lemmas.Bool.Decides.{nat_tests}
 use Rattle.std.specs.Prelude.{find}
 use Rattle.std.specs.List.{AllByRecursion}
 use Rattle.bb_base.proofs.Distinct.{Distinct}
-use Rattle.bb_netlist.specs.Net.{Gate}
+use Rattle.bb_base.specs.Net.{Gate}
 use Rattle.bb_fault.specs.Firsts.{on_some}
-use Rattle.bb_drive.specs.Work.{Work}
+use Rattle.bb_fault.specs.Work.{Work}
 use Rattle.bb_drive.specs.Nets.{has_bit}
 use Rattle.bb_drive.specs.Clock.{copied_by, copied_net, origin_within, origin}
 use Rattle.bb_drive.proofs.LabelLaws.{origin_more}

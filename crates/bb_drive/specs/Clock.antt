@@ -3,12 +3,12 @@ use Rattle.std.specs.Prelude.{ℕ, nat_eq, zero, suc, Bool, true, false, not, �
 use Rattle.std.specs.Option.{option_or}
 use Rattle.bb_base.specs.declared.operator.Op.{Op}
 use Rattle.bb_base.specs.declared.operator.Op.TheVariants as op
-use Rattle.bb_netlist.specs.Net.{Gate}
+use Rattle.bb_base.specs.Net.{Gate}
 use Rattle.bb_base.specs.Variables.{Entry}
 use Rattle.bb_fault.specs.declared.fault.ElabFault.{ElabFault}
 use Rattle.bb_fault.specs.declared.fault.ElabFault.TheVariants.{ClockNotInput, TwoClocks, ClockAsData}
 use Rattle.bb_fault.specs.Firsts.{on_some}
-use Rattle.bb_drive.specs.Work.{Work}
+use Rattle.bb_fault.specs.Work.{Work}
 use Rattle.bb_drive.specs.Nets.{input_bits, output_bits, has_bit, first_net, bit_text}
 
 abbrev pub is_buf : Op → Bool

@@ -9,7 +9,7 @@ use Rattle.bb_base.specs.declared.variable.Role.TheVariants.{Wire}
 use Rattle.bb_base.specs.declared.variable.BitName.{BitName}
 use Rattle.bb_fault.specs.declared.fault.ElabFault.{ElabFault}
 use Rattle.bb_fault.specs.declared.fault.ElabFault.TheVariants.{TwoDrivers, Undriven}
-use Rattle.bb_drive.specs.Work.{Work}
+use Rattle.bb_fault.specs.Work.{Work}
 use Rattle.bb_base.specs.OwnNames.{made_name}
 
 -- made variables --------------------------------------------------------

@@ -1,12 +1,12 @@
 -- Tables of bits by which the clock is found: what each bit copies, its copies as a list, and the input bit that feeds it.
 -- (No outcome rests on these: they serve contracts of inner calls and proofs.)
 use Rattle.std.specs.Prelude.{◌≡◌, ◌<◌, ◌⊎◌, ℕ, nat_eq, Bool, true, false, not, ◌||◌, List, [], ◌∷◌, length, count_by, Option, Some, None, if◌then◌else◌, slice_index_or, slice_set}
-use Rattle.bb_netlist.specs.Net.{Gate}
+use Rattle.bb_base.specs.Net.{Gate}
 use Rattle.bb_base.specs.Variables.{Entry}
 use Rattle.bb_drive.specs.Nets.{has_bit, input_bits}
 use Rattle.std.specs.List.{AllByRecursion}
 use Rattle.bb_fault.specs.Firsts.{first_answer}
-use Rattle.bb_drive.specs.Work.{Work, Clocked}
+use Rattle.bb_fault.specs.Work.{Work, Clocked}
 use Rattle.bb_drive.specs.Clock.{copied_net, origin_within, origin}
 
 -- what a table has for a bit, none past its end

@@ -1,8 +1,8 @@
 -- Numbers of bits that stand.
 -- (No outcome rests on these: they serve contracts of inner calls and proofs.)
 use Rattle.std.specs.Prelude.{ℕ, ◌<◌, All}
-use Rattle.bb_netlist.specs.Net.{Gate}
-use Rattle.bb_drive.specs.Work.{Work, Clocked}
+use Rattle.bb_base.specs.Net.{Gate}
+use Rattle.bb_fault.specs.Work.{Work, Clocked}
 
 pub record IsGateWithin (fresh : ℕ) (g : Gate ℕ) : Type 0 where
   pub out : g.out < fresh

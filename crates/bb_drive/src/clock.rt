@@ -8,15 +8,14 @@ ghost use Rattle.bb_fault.specs.declared.fault.ElabFault.TheVariants.{NoMemory};
 ghost use Rattle.bb_drive.specs.Nets.{nets, driver_fault};
 ghost use Rattle.bb_drive.specs.Clock.{clock_of, clock_not_input, two_clocks, clock_as_data, clock_fault, is_data};
 ghost use Rattle.bb_drive.specs.Within.{IsWithin};
-ghost use Rattle.bb_drive.specs.Work.{Work as WorkValue};
+ghost use Rattle.bb_fault.specs.Work.{Work as WorkValue};
 ghost use Rattle.bb_drive.specs.Origins.{entry_at, is_marked, is_unlabelled, is_data_label, first_label, other_label, ArePinsFed, AreFed};
 
 use crate::marks::{data_marks, input_marks, pin_marks};
 use crate::nets::bit_text;
 use crate::origins::origins_in;
-use crate::work::{Clocked, Work};
 use bb_base::{Name, Variable};
-use bb_fault::ElabFault;
+use bb_fault::{Clocked, ElabFault, Work};
 use indexmap::IndexMap;
 use std::alloc::{AllocError, Global};
 

@@ -5,10 +5,8 @@ ghost use Rattle.std.specs.List.{range_with_len};
 ghost use Rattle.bb_drive.specs.Nets.{bits_driven, bits_read, bits_from};
 ghost use Rattle.bb_drive.specs.Tallies.{tally, tallies, is_role};
 
-use crate::work::{Clocked, Work};
-use bb_base::{Name, Role, Variable};
-use bb_fault::range_width;
-use bb_netlist::{Gate, NetId};
+use bb_base::{Gate, Name, NetId, Role, Variable};
+use bb_fault::{Clocked, Work, range_width};
 use indexmap::IndexMap;
 use std::alloc::{AllocError, Global};
 

@@ -4,7 +4,8 @@
 //! - `clock_in` answers the clock and the nets that it doesn't feed, or the first fault of clock pins, of two clocks, or of a clock
 //!   that is read as data.
 //!
-//! `specs/Work.antt` says what is made, `specs/Nets.antt` what drives and reads a bit, `specs/Clock.antt` what the clock is.
+//! `specs/Nets.antt` says what drives and reads a bit, `specs/Clock.antt` what the clock is, and `specs/NamedOf.antt` what named netlist
+//! there is by them.
 #![tactic(auto)]
 
 mod clock;
@@ -12,8 +13,6 @@ mod drivers;
 mod marks;
 mod nets;
 mod origins;
-mod work;
 
 pub use clock::{Clock, clock_in};
 pub use nets::{all_variables, driven_nets, index_of};
-pub use work::{Clocked, Work, constant};

@@ -2,20 +2,18 @@
 
 ghost use Rattle.std.specs.Prelude.{◌≡◌, ◌<◌, ◌≤◌, ◌^◌, ◌+◌, ◌++◌, IfOk, ℕ, All, length, map, flat_map, if◌then◌else◌, [], List};
 ghost use Rattle.std.specs.List.{range_with_len};
-ghost use Rattle.bb_netlist.specs.Net.{Gate as GateValue};
+ghost use Rattle.bb_base.specs.Net.{Gate as GateValue};
 ghost use Rattle.bb_base.specs.Variables.{range_width};
 ghost use Rattle.bb_drive.specs.Nets.{bits_from, input_bits};
-ghost use Rattle.bb_drive.specs.Work.{Work as WorkValue, Clocked as ClockedValue};
+ghost use Rattle.bb_fault.specs.Work.{Work as WorkValue, Clocked as ClockedValue};
 ghost use Rattle.bb_drive.specs.Clock.{is_buf, clock_pins, read_as_data};
 ghost use Rattle.bb_drive.specs.Within.{IsWithin, IsGateWithin, IsFlopWithin};
 ghost use Rattle.bb_drive.specs.Tallies.{is_role};
 ghost use Rattle.bb_drive.specs.Origins.{AreMarked, AreMarks};
 
 use crate::drivers::is_role;
-use crate::work::{Clocked, Work};
-use bb_base::{Name, Op, Role, Variable};
-use bb_fault::range_width;
-use bb_netlist::{Gate, NetId};
+use bb_base::{Gate, Name, NetId, Op, Role, Variable};
+use bb_fault::{Clocked, Work, range_width};
 use indexmap::IndexMap;
 use std::alloc::{AllocError, Global};
 

@@ -8,9 +8,8 @@ ghost use Rattle.bb_fault.specs.declared.fault.ElabFault.TheVariants.{NoMemory};
 ghost use Rattle.bb_drive.specs.Nets.{made_names, made_count, made_variable, is_variable, all_variables, nets, bit_text, driver_fault};
 
 use crate::drivers::{drivers, first_twice, first_undriven, readers, used_bits};
-use crate::work::Work;
 use bb_base::{Name, Role, Variable, made_name};
-use bb_fault::{ElabFault, bit_count, range_width};
+use bb_fault::{ElabFault, Work, bit_count, range_width};
 use indexmap::IndexMap;
 use std::alloc::{AllocError, Global};
 

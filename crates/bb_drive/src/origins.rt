@@ -4,16 +4,15 @@
 //! A bit that no input feeds so, as one of a ring of `Buf` gates, gets no label.
 
 ghost use Rattle.std.specs.Prelude.{List, ◌≤◌, ◌*◌, count_by, ◌≡◌, ◌<◌, ◌^◌, ◌+◌, ◌++◌, ◌∷◌, [], ◌||◌, nat_eq, IfOk, OnOk, Some, None, ℕ, All, length, slice_set, true, if◌then◌else◌, false};
-ghost use Rattle.bb_netlist.specs.Net.{Gate as GateValue};
+ghost use Rattle.bb_base.specs.Net.{Gate as GateValue};
 ghost use Rattle.bb_drive.specs.Nets.{has_bit};
-ghost use Rattle.bb_drive.specs.Work.{Work as WorkValue};
+ghost use Rattle.bb_fault.specs.Work.{Work as WorkValue};
 ghost use Rattle.bb_drive.specs.Clock.{copied_by, copied_net};
 ghost use Rattle.bb_drive.specs.Within.{IsWithin};
 ghost use Rattle.bb_drive.specs.Origins.{entry_at, is_marked, is_unlabelled, AreCopies, Ways, AreWays, AreLabels, AreSpread, labelled, newly_labelled, AreOrigins};
 
-use crate::work::Work;
-use bb_base::Op;
-use bb_netlist::Gate;
+use bb_base::{Gate, Op};
+use bb_fault::Work;
 use std::alloc::{AllocError, Global};
 
 /// The net that a `Buf` gate copies.

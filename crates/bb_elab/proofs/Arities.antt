@@ -10,7 +10,7 @@ use Rattle.bb_base.specs.declared.operator.Op.TheVariants as op
 use Rattle.bb_base.specs.Operators.{IsArity}
 use Rattle.bb_base.specs.Variables.{Entry}
 use Rattle.bb_base.proofs.Lists.{all_join, length_map}
-use Rattle.bb_netlist.specs.Net.{HasArity}
+use Rattle.bb_base.specs.Net.{HasArity}
 use Rattle.bb_parse.specs.declared.syntax.Module.{Module}
 use Rattle.bb_parse.specs.declared.syntax.Item.{Item}
 use Rattle.bb_parse.specs.declared.syntax.Item.TheVariants as item
@@ -29,18 +29,18 @@ use Rattle.bb_scope.specs.References.{ref_fault, ref_bits, left_width}
 use Rattle.bb_scope.specs.Variables.{variables}
 use Rattle.bb_scope.specs.Cells.{Kind, kinds, kind_of, Pin, is_plain, by_place, pins_of, is_known, is_repeated, is_given, is_right_out, are_right_pins, are_right_places}
 use Rattle.bb_scope.specs.Terminals.{out_count, outs_of, ins_of}
-use Rattle.bb_width.specs.Sizes.{width, step_stack, step_fault, steps_fault, steps_stack, last_size, differs, expr_fault}
-use Rattle.bb_width.specs.Parts.{are_right_terms, pin_fault, cell_fault, prim_fault, item_fault, bad_part}
-use Rattle.bb_drive.specs.Work.{Work, drive, make, make_onto, constant}
-use Rattle.bb_gates.specs.declared.value.Bit.{Bit}
-use Rattle.bb_gates.specs.declared.value.Bit.TheVariants.{Net, Fixed}
-use Rattle.bb_gates.specs.Making.{Outs, New, To, first_out, other_outs, grounded, each_alone, each_pair, each_choice, inverted, joined_by, choice_between, last_value, step_made, steps_made, terminal_made, terminals_made, copied_onto, makes_gates, assigned, driven_bits, all_driven, prim_made, Read, pins_made, nets_of, out_of, out_net, all_nets, body_made, kind_made, cell_made, item_made, items_made}
-use Rattle.bb_meaning.specs.ValueSizes.{value_size, value_sizes}
-use Rattle.bb_elab.specs.Outcome.{work_in}
-use Rattle.bb_meaning.proofs.Operators.{width_is, grounded-length}
-use Rattle.bb_meaning.proofs.Expressions.{counted}
-use Rattle.bb_meaning.proofs.Assigns.{agreed, right-terms}
-use Rattle.bb_meaning.proofs.Instances.{terminal-length, takes, IsRow, all_rows, row_of, OneEach, one-each, placed-fault, placed-all, some-place, right-conns, fine-conns}
+use Rattle.bb_scope.specs.Sizes.{width, step_stack, step_fault, steps_fault, steps_stack, last_size, differs, expr_fault}
+use Rattle.bb_scope.specs.Parts.{are_right_terms, pin_fault, cell_fault, prim_fault, item_fault, bad_part}
+use Rattle.bb_fault.specs.Work.{Work, drive, make, make_onto, constant}
+use Rattle.bb_scope.specs.declared.value.Bit.{Bit}
+use Rattle.bb_scope.specs.declared.value.Bit.TheVariants.{Net, Fixed}
+use Rattle.bb_scope.specs.Making.{Outs, New, To, first_out, other_outs, grounded, each_alone, each_pair, each_choice, inverted, joined_by, choice_between, last_value, step_made, steps_made, terminal_made, terminals_made, copied_onto, makes_gates, assigned, driven_bits, all_driven, prim_made, Read, pins_made, nets_of, out_of, out_net, all_nets, body_made, kind_made, cell_made, item_made, items_made}
+use Rattle.bb_scope.specs.ValueSizes.{value_size, value_sizes}
+use Rattle.bb_meaning.specs.Outcome.{work_in}
+use Rattle.bb_scope.proofs.Operators.{width_is, grounded-length}
+use Rattle.bb_scope.proofs.Expressions.{counted}
+use Rattle.bb_scope.proofs.Assigns.{agreed, right-terms}
+use Rattle.bb_scope.proofs.Instances.{terminal-length, takes, IsRow, all_rows, row_of, OneEach, one-each, placed-fault, placed-all, some-place, right-conns, fine-conns}
 
 -- the gates that were made have arities that hold
 abbrev pub Fits : Work → Type 0

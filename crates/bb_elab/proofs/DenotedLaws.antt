@@ -3,22 +3,22 @@ use Rattle.std.proofs.Common.{◌≡◌, Bool, length, All, subst, sym, arith, �
 use Rattle.std.specs.Prelude.{None}
 use Rattle.std.specs.Option.{option_or}
 use Rattle.std.specs.List.{AllByRecursion}
-use Rattle.bb_netlist.specs.Net.{driven, HasArity}
-use Rattle.bb_net.specs.Named.{IsNamed}
+use Rattle.bb_base.specs.Net.{driven, HasArity}
+use Rattle.bb_base.specs.Named.{IsNamed}
 use Rattle.bb_runs.proofs.Loops.{AreDrivenOnce}
 use Rattle.bb_parse.specs.declared.syntax.Module.{Module}
 use Rattle.bb_parse.specs.Sound.{IsSoundModule}
 use Rattle.bb_fault.proofs.Parted.{none-first, none-second}
-use Rattle.bb_width.specs.Parts.{bad_part}
-use Rattle.bb_width.specs.Text.{text_fault}
+use Rattle.bb_scope.specs.Parts.{bad_part}
+use Rattle.bb_scope.specs.Text.{text_fault}
 use Rattle.bb_drive.specs.Nets.{driver_fault}
 use Rattle.bb_drive.specs.Clock.{clock_fault}
-use Rattle.bb_assemble.specs.NamedOf.{kept}
+use Rattle.bb_drive.specs.NamedOf.{kept}
 use Rattle.bb_assemble.proofs.KeptNets.{IsFineWork}
 use Rattle.bb_assemble.proofs.NamedLaws.{named_fits}
 use Rattle.bb_assemble.proofs.NumberedNets.{as_many, once, drives_below}
-use Rattle.bb_elab.specs.Outcome.{first_fault, denoted, net_fault, variables_in, work_in}
-use Rattle.bb_elab.proofs.CountedFault.{counted_first}
+use Rattle.bb_meaning.specs.Outcome.{first_fault, denoted, net_fault, variables_in, work_in}
+use Rattle.bb_meaning.proofs.CountedFault.{counted_first}
 use Rattle.bb_elab.proofs.PortLaws.{IsFine, fine_text, all_entries, ports_stand_first}
 use Rattle.bb_elab.proofs.WithinLaws.{work_within}
 use Rattle.bb_elab.proofs.NameLaws.{bits_are_all, variables_apart}

@@ -1,4 +1,3 @@
-pub mod CountedFault
 pub mod LoopLaws
 pub mod PortLaws
 pub mod Rows

@@ -3,24 +3,24 @@ use Rattle.std.proofs.Common.{arith, ◌≡◌, ◌⊎◌, inl, inr, ℕ, ◌<�
 use Rattle.std.proofs.lemmas.Option.{slice_get-get_or, slice_get_within}
 use Rattle.std.proofs.lemmas.List.{get_or-map}
 use Rattle.std.specs.Prelude.{Option, None, Result, Ok, Err}
-use Rattle.bb_netlist.specs.Net.{Gate, Netlist}
+use Rattle.bb_base.specs.Net.{Gate, Netlist}
 use Rattle.bb_base.specs.Variables.{bit_of}
-use Rattle.bb_net.specs.Named.{Named, IsNamed}
-use Rattle.bb_netlist.specs.Order.{IsLoop, IsCycle, HasOrder}
+use Rattle.bb_base.specs.Named.{Named, IsNamed}
+use Rattle.bb_base.specs.Order.{IsLoop, IsCycle, HasOrder}
 use Rattle.bb_netlist.proofs.WalkLemmas.{loop_cycles}
-use Rattle.bb_netlist.proofs.CycleLemmas.{no_cycle}
+use Rattle.bb_base.proofs.CycleLemmas.{no_cycle}
 use Rattle.bb_parse.specs.declared.syntax.Module.{Module}
 use Rattle.bb_fault.specs.declared.fault.ElabFault.{ElabFault}
 use Rattle.bb_fault.specs.Firsts.{on_some}
 use Rattle.bb_drive.specs.Nets.{bit_name, bit_text}
-use Rattle.bb_elab.specs.LoopNames.{loop_at, loop_in, IsLoopIn}
-use Rattle.bb_width.specs.Text.{text_fault}
-use Rattle.bb_elab.specs.Outcome.{IsOutcome, IsLooped, loop_fault, net_fault, first_fault, denoted, variables_in, work_in}
-use Rattle.bb_assemble.specs.NamedOf.{kept}
+use Rattle.bb_meaning.specs.LoopNames.{loop_at, loop_in, IsLoopIn}
+use Rattle.bb_scope.specs.Text.{text_fault}
+use Rattle.bb_meaning.specs.Outcome.{IsOutcome, IsLooped, loop_fault, net_fault, first_fault, denoted, variables_in, work_in}
+use Rattle.bb_drive.specs.NamedOf.{kept}
 use Rattle.bb_runs.proofs.Loops.{one_loop_of, cycle_within, driven_once}
 use Rattle.bb_runs.proofs.Walks.{order_or_loop_of}
 use Rattle.bb_parse.specs.Sound.{IsSoundModule}
-use Rattle.bb_elab.proofs.CountedFault.{nets_first}
+use Rattle.bb_meaning.proofs.CountedFault.{nets_first}
 use Rattle.bb_elab.proofs.DenotedLaws.{driven-once, nets_counted, denoted-fits}
 
 -- outcomes --------------------------------------------------------------

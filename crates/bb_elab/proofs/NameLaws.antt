@@ -12,7 +12,7 @@ use Rattle.bb_base.specs.OwnNames.{made_name}
 use Rattle.bb_base.proofs.Lists.{all_join, length_map, map_join}
 use Rattle.bb_base.proofs.Distinct.{Distinct, distinct_map}
 use Rattle.bb_net.proofs.CountLemmas.{variables_few}
-use Rattle.bb_netlist.proofs.TimesLemmas.{times_range, once_distinct}
+use Rattle.bb_base.proofs.TimesLemmas.{times_range, once_distinct}
 use Rattle.bb_parse.specs.declared.syntax.Module.{Module}
 use Rattle.bb_parse.specs.declared.syntax.Decl.{Decl}
 use Rattle.bb_fault.proofs.Keys.{same_name, name_itself}
@@ -20,11 +20,11 @@ use Rattle.bb_scope.specs.Names.{has_name, with_new_name, variable_names, mentio
 use Rattle.bb_scope.specs.Declarations.{declarations}
 use Rattle.bb_scope.specs.Variables.{entry_of, variables}
 use Rattle.bb_drive.specs.Nets.{made_count, is_variable, made_names, made_variable}
-use Rattle.bb_gates.proofs.AllItems.{all_take, all_filter}
+use Rattle.bb_meaning.proofs.AllItems.{all_take, all_filter}
 use Rattle.bb_assemble.proofs.NamedBits.{bit_count_join}
 use Rattle.bb_assemble.proofs.NumberedNets.{distinct_apart}
-use Rattle.bb_elab.specs.Outcome.{work_in, variables_in}
-use Rattle.bb_meaning.proofs.Counting.{module-fresh}
+use Rattle.bb_meaning.specs.Outcome.{work_in, variables_in}
+use Rattle.bb_scope.proofs.Counting.{module-fresh}
 use Rattle.bb_elab.proofs.PortLaws.{IsFine}
 
 -- lists without repetitions --------------------------------------------------

@@ -12,27 +12,27 @@ use Rattle.bb_base.specs.declared.operator.Op.TheVariants as op
 use Rattle.bb_base.specs.Operators.{IsArity, op_gives}
 use Rattle.bb_base.specs.Variables.{Entry, Bit, is_input, bit_of}
 use Rattle.bb_base.proofs.Lists.{all_map}
-use Rattle.bb_netlist.specs.Net.{Gate, Flop, HasArity, renamed_gate, renamed_flop}
-use Rattle.bb_netlist.specs.Run.{Meets}
-use Rattle.bb_net.specs.Named.{Named, net_text, design_of}
+use Rattle.bb_base.specs.Net.{Gate, Flop, HasArity, renamed_gate, renamed_flop}
+use Rattle.bb_base.specs.Run.{Meets}
+use Rattle.bb_base.specs.Named.{Named, net_text, design_of}
 use Rattle.bb_parse.specs.Sound.{IsSoundModule}
 use Rattle.bb_parse.specs.Trees.{File}
 use Rattle.bb_parse.specs.Meaning.{module_of}
 use Rattle.bb_fault.specs.Firsts.{on_some}
 use Rattle.bb_scope.specs.Variables.{variables}
-use Rattle.bb_drive.specs.Work.{Work, Clocked}
+use Rattle.bb_fault.specs.Work.{Work, Clocked}
 use Rattle.bb_drive.specs.Within.{IsGateWithin}
 use Rattle.bb_drive.specs.Nets.{input_bits, bits_driven, bits_read, has_bit, bit_name, bit_text}
 use Rattle.bb_drive.specs.Clock.{is_buf, first_of, copied_by, copied_net, origin, origin_within, clock_of, is_clock, is_data}
 use Rattle.bb_drive.proofs.ClockLaws.{input_free}
-use Rattle.bb_assemble.specs.NamedOf.{kept, place_among, named_of}
+use Rattle.bb_drive.specs.NamedOf.{kept, place_among, named_of}
 use Rattle.bb_assemble.proofs.NamedBits.{or_left, or_right}
 use Rattle.bb_assemble.proofs.KeptLaws.{counted, clock_is_input}
 use Rattle.bb_drive.proofs.BitBounds.{bits_in}
 use Rattle.bb_assemble.proofs.KeptNets.{all_placed, at_place, has_mapped, IsFineWork, IsKept, few_drivers, parts_counted, gate_kept, flop_kept}
 use Rattle.bb_assemble.proofs.NumberedNets.{bit_placed}
 use Rattle.bb_targets.proofs.Twice.{text_front}
-use Rattle.bb_elab.specs.Outcome.{first_fault, denoted, variables_in, work_in}
+use Rattle.bb_meaning.specs.Outcome.{first_fault, denoted, variables_in, work_in}
 use Rattle.bb_elab.proofs.DenotedLaws.{fine_work, fine_parts, arities}
 use Rattle.bb_meaning.specs.Statements.{StatementHolds}
 use Rattle.bb_meaning.specs.Values.{Bits, reference_bits}

@@ -29,17 +29,17 @@ use Rattle.bb_scope.specs.Names.{step_names, steps_names, pin_names, conns_names
 use Rattle.bb_scope.specs.Declarations.{header_decls, item_decls, declarations, is_direction, has_direction, is_odd_port, is_stray, bad_port, redeclared}
 use Rattle.bb_scope.specs.Variables.{declared_role, declared_range, entry_of, variables}
 use Rattle.bb_fault.specs.Limits.{too_many}
-use Rattle.bb_width.specs.Parts.{bad_part, all_bits, too_many_bits, too_many_nets}
+use Rattle.bb_scope.specs.Parts.{bad_part, all_bits, too_many_bits, too_many_nets}
 use Rattle.bb_scope.specs.Cells.{unknown_cell}
-use Rattle.bb_width.specs.Text.{name_fault, part_fault, text_fault}
+use Rattle.bb_scope.specs.Text.{name_fault, part_fault, text_fault}
 use Rattle.bb_drive.specs.Nets.{made_count, is_variable, made_names, made_variable}
 use Rattle.bb_base.specs.OwnNames.{made_name}
 use Rattle.bb_assemble.specs.Assembling.{ArePortsFirst}
-use Rattle.bb_elab.specs.Outcome.{variables_in, work_in}
-use Rattle.bb_meaning.proofs.Counting.{module-fresh}
+use Rattle.bb_meaning.specs.Outcome.{variables_in, work_in}
+use Rattle.bb_scope.proofs.Counting.{module-fresh}
 use Rattle.bb_meaning.proofs.Mentioned.{all_added}
 use Rattle.bb_fault.proofs.Keys.{same_name}
-use Rattle.bb_gates.proofs.AllItems.{at_item, all_flat, all_take, all_filter, all_range}
+use Rattle.bb_meaning.proofs.AllItems.{at_item, all_flat, all_take, all_filter, all_range}
 use Rattle.bb_fault.proofs.Parted.{none-first, none-second}
 use Rattle.bb_base.proofs.OwnNameLemmas.{made_is_name}
 use Rattle.bb_net.proofs.CountLemmas.{variables_few}

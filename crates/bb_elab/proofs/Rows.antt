@@ -5,8 +5,8 @@ use Rattle.bb_base.specs.declared.operator.Op.{Op}
 use Rattle.bb_base.specs.declared.operator.Op.TheVariants as op
 use Rattle.bb_base.specs.declared.variable.Role.{Role}
 use Rattle.bb_base.specs.declared.variable.Role.TheVariants.{Input, Output, Wire}
-use Rattle.bb_netlist.specs.Net.{Gate, Netlist}
-use Rattle.bb_netlist.specs.Order.{is_within, IsStuck, IsFirstStuck}
+use Rattle.bb_base.specs.Net.{Gate, Netlist}
+use Rattle.bb_base.specs.Order.{is_within, IsStuck, IsFirstStuck}
 use Rattle.bb_parse.specs.declared.syntax.Module.{Module}
 use Rattle.bb_parse.specs.declared.syntax.Header.TheVariants.{Plain, Ansi}
 use Rattle.bb_parse.specs.declared.syntax.Item.{Item}
@@ -17,8 +17,8 @@ use Rattle.bb_parse.specs.declared.syntax.Step.{Step}
 use Rattle.bb_parse.specs.declared.syntax.Step.TheVariants as step
 use Rattle.bb_fault.specs.declared.fault.ElabFault.{ElabFault}
 use Rattle.bb_fault.specs.declared.fault.ElabFault.TheVariants.{Reserved, Redeclared, BadPort, TooMany, UnknownCell, BadPins, BadSelect, WidthDiffers, TooWide, TwoDrivers, Undriven, ClockNotInput, TwoClocks, ClockAsData, Loop}
-use Rattle.bb_width.specs.Text.{text_fault}
-use Rattle.bb_elab.specs.Outcome.{IsLooped, first_fault, denoted}
+use Rattle.bb_scope.specs.Text.{text_fault}
+use Rattle.bb_meaning.specs.Outcome.{IsLooped, first_fault, denoted}
 
 abbrev declared : ℕ → Role → Option (ℕ × ℕ) → List ℕ → Decl
 declared line role range name = record { line = line; role = role; range = range; name = name }

@@ -19,15 +19,15 @@ use Rattle.bb_scope.specs.Names.{steps_names, conns_names, item_names, header_na
 use Rattle.bb_scope.specs.Variables.{variables}
 use Rattle.bb_scope.specs.Cells.{Kind, kind_of, Pin, pins_of}
 use Rattle.bb_drive.specs.Within.{IsGateWithin, IsFlopWithin, IsWithin}
-use Rattle.bb_elab.specs.Outcome.{work_in}
-use Rattle.bb_drive.specs.Work.{Work, make}
-use Rattle.bb_gates.specs.Making.{Outs, To, Read, first_out, terminal_made, driven_bits, pins_made, nets_of, out_of, out_net, flip_flop_made, all_nets, gate_made, second_inverted, multiplexer_made, body_made, kind_made, cell_made, item_made, items_made}
+use Rattle.bb_meaning.specs.Outcome.{work_in}
+use Rattle.bb_fault.specs.Work.{Work, make}
+use Rattle.bb_scope.specs.Making.{Outs, To, Read, first_out, terminal_made, driven_bits, pins_made, nets_of, out_of, out_net, flip_flop_made, all_nets, gate_made, second_inverted, multiplexer_made, body_made, kind_made, cell_made, item_made, items_made}
 use Rattle.bb_scope.specs.References.{ref_bits}
 use Rattle.bb_meaning.proofs.Mentioned.{mentioned_known}
 use Rattle.bb_meaning.proofs.Pins.{IsPinKnown, pins-known}
-use Rattle.bb_gates.proofs.AllItems.{all_flat}
-use Rattle.bb_gates.proofs.WithinGates.{AreBelow, AreOutsBelow, IsBelow, IsDone, IsInside, IsOutBelow, Keeps, each-keeps, first_below, make-keeps, nets_more, new-keeps, onto-keeps, outs_more}
-use Rattle.bb_gates.proofs.WithinSteps.{AreKnown, IsKnown, assigned-keeps, driven_below, prim-keeps, ref_below, terminal-keeps}
+use Rattle.bb_meaning.proofs.AllItems.{all_flat}
+use Rattle.bb_meaning.proofs.WithinGates.{AreBelow, AreOutsBelow, IsBelow, IsDone, IsInside, IsOutBelow, Keeps, each-keeps, first_below, make-keeps, nets_more, new-keeps, onto-keeps, outs_more}
+use Rattle.bb_meaning.proofs.WithinSteps.{AreKnown, IsKnown, assigned-keeps, driven_below, prim-keeps, ref_below, terminal-keeps}
 
 -- cells ---------------------------------------------------------------------------
 

@@ -3,9 +3,9 @@
 ghost use Rattle.std.specs.Prelude.{◌≡◌, ℕ, Bool, true, None, Result};
 ghost use Rattle.std.specs.List.{AllByRecursion};
 ghost use Rattle.bb_base.specs.Variables.{Bit};
-ghost use Rattle.bb_netlist.specs.Net.{Flop};
-ghost use Rattle.bb_netlist.specs.Run.{Meets};
-ghost use Rattle.bb_net.specs.Named.{Named, IsNamed, design_of};
+ghost use Rattle.bb_base.specs.Net.{Flop};
+ghost use Rattle.bb_base.specs.Run.{Meets};
+ghost use Rattle.bb_base.specs.Named.{Named, IsNamed, design_of};
 ghost use Rattle.bb_parse.specs.declared.syntax.Module.{Module as ModuleValue};
 ghost use Rattle.bb_parse.specs.Sound.{IsSoundModule};
 ghost use Rattle.bb_fault.specs.declared.fault.ElabFault.{ElabFault};
@@ -16,7 +16,7 @@ ghost use Rattle.bb_drive.specs.Nets.{bit_text};
 ghost use Rattle.bb_drive.specs.Clock.{is_clock};
 ghost use Rattle.bb_meaning.specs.Values.{Bits, reference_bits};
 ghost use Rattle.bb_meaning.specs.Statements.{StatementHolds};
-ghost use Rattle.bb_elab.specs.Outcome.{IsOutcome, first_fault, denoted, variables_in, work_in};
+ghost use Rattle.bb_meaning.specs.Outcome.{IsOutcome, first_fault, denoted, variables_in, work_in};
 
 /// What a module without a fault but a loop denotes is a named netlist: each net has one driver, arities hold, and names differ. The
 /// module is one of a text: its names are names, its numbers are in their ranges, and its primitives have operators of keywords.

@@ -1,8 +1,7 @@
 //! Elaboration: what a module denotes.
 //!
-//! - `specs/Outcome.antt` says what a module denotes, a named netlist or its first fault: variables, gates in the text's order,
-//!   drivers, the clock and loops.
-//! - `elaborate` answers exactly that: the named netlist and the order of its gates, or the first fault.
+//! - `elaborate` answers exactly what `specs/Outcome.antt` of `bb_meaning` says that a module denotes: the named netlist, with the order of
+//!   its gates, or the first fault.
 //! - Each module of a text has exactly one outcome, and what one without a fault but a loop denotes is a named netlist.
 //! - In every cycle of that netlist the statements of the text hold, by the operators of the language (`netlists_mean`).
 //! - `text_fault` answers the first fault of names, declarations, ports, cells, pins, selects, widths and the number of bits, before

@@ -5,9 +5,9 @@ use Rattle.std.proofs.lemmas.Bool.Decides.{nat_tests}
 use Rattle.std.specs.List.{AllByRecursion}
 use Rattle.bb_base.specs.Operators.{op_gives}
 use Rattle.bb_base.proofs.Lists.{same_map_at}
-use Rattle.bb_netlist.specs.Net.{Gate}
-use Rattle.bb_netlist.specs.Order.{drivers}
-use Rattle.bb_netlist.specs.Run.{Meets}
+use Rattle.bb_base.specs.Net.{Gate}
+use Rattle.bb_base.specs.Order.{drivers}
+use Rattle.bb_base.specs.Run.{Meets}
 use Rattle.bb_eqn.specs.Values.{bits_at}
 use Rattle.bb_eqn.specs.Sequence.{WriteFirst}
 

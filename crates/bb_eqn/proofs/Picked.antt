@@ -6,9 +6,9 @@ use Rattle.std.specs.Prelude.{Bool, Option, Contains}
 use Rattle.std.specs.List.{AllByRecursion}
 use Rattle.bb_base.proofs.Contained.{at_place, to_all}
 use Rattle.bb_base.proofs.Distinct.{Distinct}
-use Rattle.bb_netlist.specs.Net.{Gate}
-use Rattle.bb_netlist.specs.Order.{drivers, ReadsGate}
-use Rattle.bb_netlist.proofs.CycleLemmas.{driver_there}
+use Rattle.bb_base.specs.Net.{Gate}
+use Rattle.bb_base.specs.Order.{drivers, ReadsGate}
+use Rattle.bb_base.proofs.CycleLemmas.{driver_there}
 use Rattle.bb_eqn.specs.Sequence.{WriteFirst}
 use Rattle.bb_eqn.proofs.Evaluated.{given, evaluated, none_before}
 

@@ -8,12 +8,12 @@ use Rattle.std.proofs.lemmas.Option.{slice_get_within, get_or_from_slice_get}
 use Rattle.std.specs.List.{AllByRecursion, range_with_len, flat_map}
 use Rattle.bb_base.proofs.Lists.{all_front, all_back, all_map, all_parts, same_map_at, map_twice}
 use Rattle.bb_base.proofs.Contained.{by_place, place_of}
-use Rattle.bb_netlist.specs.Net.{Gate, Flop, Netlist, driven, reads, times, IsNetlist}
-use Rattle.bb_netlist.specs.Order.{drivers, IsOrder, ComesBefore}
-use Rattle.bb_netlist.specs.Run.{Meets, Settles}
-use Rattle.bb_netlist.proofs.TimesLemmas.{once_distinct}
-use Rattle.bb_netlist.proofs.CycleLemmas.{follows}
-use Rattle.bb_netlist.proofs.GateLemmas.{outs_times, at_most_one, undriven, stands_once}
+use Rattle.bb_base.specs.Net.{Gate, Flop, Netlist, driven, reads, times, IsNetlist}
+use Rattle.bb_base.specs.Order.{drivers, IsOrder, ComesBefore}
+use Rattle.bb_base.specs.Run.{Meets, Settles}
+use Rattle.bb_base.proofs.TimesLemmas.{once_distinct}
+use Rattle.bb_base.proofs.CycleLemmas.{follows}
+use Rattle.bb_base.proofs.GateLemmas.{outs_times, at_most_one, undriven, stands_once}
 use Rattle.bb_eqn.specs.Values.{bits_at}
 use Rattle.bb_eqn.specs.Sequence.{WriteFirst}
 use Rattle.bb_eqn.proofs.Picked.{picked, Once, write_first, of_picked, to_picked, apart_all}

@@ -6,8 +6,8 @@ use Rattle.std.specs.List.{AllByRecursion}
 use Rattle.std.proofs.lemmas.List.Elements.{recursion_from_All}
 use Rattle.std.specs.Prelude.{All}
 use Rattle.bb_base.proofs.Lists.{map_twice, length_map, all_map_back}
-use Rattle.bb_netlist.specs.Net.{Flop, times}
-use Rattle.bb_netlist.proofs.TimesLemmas.{times_head}
+use Rattle.bb_base.specs.Net.{Flop, times}
+use Rattle.bb_base.proofs.TimesLemmas.{times_head}
 use Rattle.bb_eqn.specs.Values.{bits_at}
 
 abbrev pub written : List ℕ → List Bool → List Bool → List Bool

@@ -1,8 +1,8 @@
 -- Gates that can be evaluated one after another.
 use Rattle.std.specs.Prelude.{◌≡◌, ℕ, List, [], ◌∷◌}
 use Rattle.std.specs.List.{AllByRecursion}
-use Rattle.bb_netlist.specs.Net.{Gate}
-use Rattle.bb_netlist.specs.Order.{drivers}
+use Rattle.bb_base.specs.Net.{Gate}
+use Rattle.bb_base.specs.Order.{drivers}
 
 -- no gate reads what it or a later one drives, and no two drive one net
 abbrev pub WriteFirst : List (Gate ℕ) → Type 0

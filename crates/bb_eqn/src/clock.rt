@@ -2,13 +2,14 @@
 
 ghost use Rattle.std.specs.Prelude.{◌≡◌, ◌<◌, ◌≤◌, ℕ, [], length, map, All};
 ghost use Rattle.std.specs.List.{AllByRecursion};
-ghost use Rattle.bb_netlist.specs.Net.{driven, times};
-ghost use Rattle.bb_netlist.specs.Order.{IsOrder, drivers};
-ghost use Rattle.bb_netlist.specs.Run.{Meets, Settles, next_states};
+ghost use Rattle.bb_base.specs.Net.{driven, times};
+ghost use Rattle.bb_base.specs.Order.{IsOrder, drivers};
+ghost use Rattle.bb_base.specs.Run.{Meets, Settles, next_states};
 ghost use Rattle.bb_eqn.specs.Values.{bits_at};
 
 use crate::gate::write_gate;
-use bb_netlist::{Flop, Gate, NetId, Netlist, Order};
+use bb_base::{Flop, Gate, NetId, Netlist};
+use bb_netlist::Order;
 
 /// Writes the bits of nets.
 fn write_nets(nets: &[NetId], bits: &[bool], values: &mut [bool])

@@ -4,13 +4,12 @@ ghost use Rattle.std.specs.Prelude.{◌≡◌, ◌<◌, ℕ, [], length, map, se
 ghost use Rattle.std.specs.List.{AllByRecursion};
 ghost use Rattle.bb_base.specs.Booleans.{all_true, some_true, parity_of_bits};
 ghost use Rattle.bb_base.specs.Operators.{first_bit, op_gives};
-ghost use Rattle.bb_netlist.specs.Order.{drivers};
-ghost use Rattle.bb_netlist.specs.Run.{Meets};
+ghost use Rattle.bb_base.specs.Order.{drivers};
+ghost use Rattle.bb_base.specs.Run.{Meets};
 ghost use Rattle.bb_eqn.specs.Values.{bits_at};
 ghost use Rattle.bb_eqn.specs.Sequence.{WriteFirst};
 
-use bb_base::Op;
-use bb_netlist::{Gate, NetId};
+use bb_base::{Gate, NetId, Op};
 
 /// Whether each of some nets is 1.
 fn are_all(nets: &[NetId], values: &[bool]) -> bool

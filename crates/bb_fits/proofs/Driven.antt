@@ -3,16 +3,16 @@ use Rattle.std.proofs.Common.{◌≡◌, ◌⊎◌, ◌↔◌, inl, inr, ℕ, �
 use Rattle.std.proofs.lemmas.Bool.Decides.{nat_tests}
 use Rattle.std.proofs.lemmas.Option.{slice_get-map}
 use Rattle.std.specs.List.{list_any}
-use Rattle.bb_netlist.specs.Net.{Gate, Flop, Netlist, driven, times, IsNetlist}
-use Rattle.bb_netlist.specs.Drivers.{Drives}
-use Rattle.bb_netlist.specs.declared.netlist.Driver.{Driver}
-use Rattle.bb_netlist.specs.declared.netlist.Driver.TheVariants.{Input as InputAt, Gate as GateAt, Flop as FlopAt}
-use Rattle.bb_netlist.proofs.GateLemmas.{stands_once, outs_times}
-use Rattle.bb_netlist.proofs.TimesLemmas.{times_past}
-use Rattle.bb_rules.specs.declared.kind.Kind.{Kind}
-use Rattle.bb_rules.specs.declared.kind.Kind.TheVariants.{Input, State, Split, Cut, Watch, Output}
-use Rattle.bb_rules.specs.Plan.{PlanValue, chain}
-use Rattle.bb_rules.specs.Rules.{IsInput, IsQ, IsGateNet, MayStand, HasKind, IsServed, net_numbers, Served}
+use Rattle.bb_base.specs.Net.{Gate, Flop, Netlist, driven, times, IsNetlist}
+use Rattle.bb_base.specs.Drivers.{Drives}
+use Rattle.bb_base.specs.declared.netlist.Driver.{Driver}
+use Rattle.bb_base.specs.declared.netlist.Driver.TheVariants.{Input as InputAt, Gate as GateAt, Flop as FlopAt}
+use Rattle.bb_base.proofs.GateLemmas.{stands_once, outs_times}
+use Rattle.bb_base.proofs.TimesLemmas.{times_past}
+use Rattle.bb_terms.specs.declared.kind.Kind.{Kind}
+use Rattle.bb_terms.specs.declared.kind.Kind.TheVariants.{Input, State, Split, Cut, Watch, Output}
+use Rattle.bb_terms.specs.Plan.{PlanValue, chain}
+use Rattle.bb_terms.specs.Rules.{IsInput, IsQ, IsGateNet, MayStand, HasKind, IsServed, net_numbers, Served}
 use Rattle.bb_fits.specs.Answers.{IsVerdict}
 use Rattle.bb_fits.specs.Tables.{IsFound}
 use Rattle.bb_fits.specs.declared.table.OnNet.{OnNet}

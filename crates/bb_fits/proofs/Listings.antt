@@ -4,9 +4,9 @@ use Rattle.std.proofs.lemmas.Bool.Decides.{nat_tests}
 use Rattle.std.proofs.lemmas.Option.{slice_get_within}
 use Rattle.std.specs.List.{list_any, flat_map}
 use Rattle.bb_base.specs.Places.{IsFirstWrong}
-use Rattle.bb_netlist.specs.Net.{Netlist}
-use Rattle.bb_rules.specs.Plan.{RegisterValue, PlanValue, lists_register}
-use Rattle.bb_rules.specs.Rules.{IsListed, IsSession, Compacted}
+use Rattle.bb_base.specs.Net.{Netlist}
+use Rattle.bb_terms.specs.Plan.{RegisterValue, PlanValue, lists_register}
+use Rattle.bb_terms.specs.Rules.{IsListed, IsSession, Compacted}
 use Rattle.bb_fits.specs.Answers.{IsVerdict}
 use Rattle.bb_fits.specs.Tables.{IsFound}
 use Rattle.bb_fits.specs.Tables.{MayBeSession, AreListed, IsListedIn}

@@ -4,11 +4,11 @@ use Rattle.std.proofs.lemmas.Bool.Decides.{nat_tests}
 use Rattle.std.proofs.lemmas.Grind.{common_steps}
 use Rattle.std.proofs.lemmas.Option.{gets}
 use Rattle.bb_base.proofs.Contained.{here, there, either, none_in, place_of, contains_at}
-use Rattle.bb_rules.specs.declared.kind.Kind.{Kind}
-use Rattle.bb_rules.specs.declared.kind.Kind.TheVariants.{Input, State, Split, Cut, Watch, Output}
-use Rattle.bb_rules.specs.declared.plan.Cell.{Cell}
-use Rattle.bb_rules.specs.Kinds.{is_source, takes_d, takes_net}
-use Rattle.bb_rules.specs.Rules.{meet}
+use Rattle.bb_terms.specs.declared.kind.Kind.{Kind}
+use Rattle.bb_terms.specs.declared.kind.Kind.TheVariants.{Input, State, Split, Cut, Watch, Output}
+use Rattle.bb_terms.specs.declared.plan.Cell.{Cell}
+use Rattle.bb_terms.specs.Kinds.{is_source, takes_d, takes_net}
+use Rattle.bb_terms.specs.Rules.{meet}
 use Rattle.bb_fits.specs.declared.table.OnNet.{OnNet}
 use Rattle.bb_fits.specs.Tables.{blank, has, with_kind, meets, noted, on_net, IsApartIn}
 use Rattle.bb_fits.proofs.Items.{in_front_of, front_has}

@@ -1,9 +1,9 @@
 -- What a test of a rule answers, and what a test of several rules in their order does.
 use Rattle.std.specs.Prelude.{ℕ, ◌≤◌, Option, None, Some}
-use Rattle.bb_netlist.specs.Net.{Netlist}
-use Rattle.bb_rules.specs.Plan.{PlanValue}
-use Rattle.bb_rules.specs.Rules.{Rule, rule_number, Holds, FailsAt}
-use Rattle.bb_rules.specs.Valid.{IsRuleFault}
+use Rattle.bb_base.specs.Net.{Netlist}
+use Rattle.bb_terms.specs.Plan.{PlanValue}
+use Rattle.bb_terms.specs.Rules.{Rule, rule_number, Holds, FailsAt}
+use Rattle.bb_terms.specs.Valid.{IsRuleFault}
 use Rattle.bb_fits.specs.declared.first.Misfit.{Misfit}
 
 -- none where the plan meets the rule, else the place at which it fails first

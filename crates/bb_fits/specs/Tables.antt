@@ -3,15 +3,15 @@ use Rattle.std.specs.Prelude.{◌≡◌, ℕ, ◌≤◌, ◌<◌, ◌==◌, Bool
 use Rattle.std.specs.List.{AllByRecursion, list_any}
 use Rattle.std.specs.List.Sorted.{IsStrictlyIncreasing}
 use Rattle.bb_base.specs.Places.{EachAt, IsFirstWrong}
-use Rattle.bb_netlist.specs.Net.{Netlist, driven}
-use Rattle.bb_netlist.specs.declared.netlist.Driver.{Driver}
-use Rattle.bb_netlist.specs.declared.netlist.Driver.TheVariants.{Input as InputAt, Gate as GateAt, Flop as FlopAt}
-use Rattle.bb_rules.specs.declared.kind.Kind.{Kind}
-use Rattle.bb_rules.specs.declared.kind.Kind.TheVariants.{Input, State, Split, Cut, Watch, Output}
-use Rattle.bb_rules.specs.declared.plan.Cell.{Cell}
-use Rattle.bb_rules.specs.Kinds.{is_source, takes_d, takes_net}
-use Rattle.bb_rules.specs.Plan.{RegisterValue, PlanValue, has_input, lists_register}
-use Rattle.bb_rules.specs.Rules.{MayCompact, meet}
+use Rattle.bb_base.specs.Net.{Netlist, driven}
+use Rattle.bb_base.specs.declared.netlist.Driver.{Driver}
+use Rattle.bb_base.specs.declared.netlist.Driver.TheVariants.{Input as InputAt, Gate as GateAt, Flop as FlopAt}
+use Rattle.bb_terms.specs.declared.kind.Kind.{Kind}
+use Rattle.bb_terms.specs.declared.kind.Kind.TheVariants.{Input, State, Split, Cut, Watch, Output}
+use Rattle.bb_terms.specs.declared.plan.Cell.{Cell}
+use Rattle.bb_terms.specs.Kinds.{is_source, takes_d, takes_net}
+use Rattle.bb_terms.specs.Plan.{RegisterValue, PlanValue, has_input, lists_register}
+use Rattle.bb_terms.specs.Rules.{MayCompact, meet}
 use Rattle.bb_fits.specs.declared.table.OnNet.{OnNet}
 
 -- none where the fact holds of each item, else the first place at which it doesn't

@@ -2,14 +2,14 @@
 // complete register.
 
 ghost use Rattle.std.specs.Prelude.{◌≡◌, ◌↔◌, ◌≤◌, ℕ, IsTrue};
-ghost use Rattle.bb_netlist.specs.Net.{Netlist};
-ghost use Rattle.bb_creg.specs.Register.{IsMask};
-ghost use Rattle.bb_rules.specs.Plan.{chain};
-ghost use Rattle.bb_rules.specs.Rules.{IsFrame, IsRegister, Frame, Registers, Room, Period};
+ghost use Rattle.bb_base.specs.Net.{Netlist};
+ghost use Rattle.bb_terms.specs.Register.{IsMask};
+ghost use Rattle.bb_terms.specs.Plan.{chain};
+ghost use Rattle.bb_terms.specs.Rules.{IsFrame, IsRegister, Frame, Registers, Room, Period};
 ghost use Rattle.bb_fits.specs.Answers.{IsVerdict};
 
 use bb_creg::walk;
-use bb_rules::{Cell, Plan, Register};
+use bb_terms::{Cell, Plan, Register};
 
 /// Rule 1: the width is 1 to 12, the degree 1 to 20, and the mask's last tap is the complete register's last bit. The place is 0.
 pub fn frame(plan: &Plan) -> Option<u64>

@@ -3,14 +3,14 @@
 ghost use Rattle.std.specs.Prelude.{◌≡◌, ◌↔◌, ◌||◌, ◌<◌, ℕ, false, length, IfOk, IsTrue, get_or};
 ghost use Rattle.std.specs.List.{AllByRecursion, list_any, list_all};
 ghost use Rattle.std.specs.List.Sorted.{IsStrictlyIncreasing};
-ghost use Rattle.bb_netlist.specs.Net.{Netlist};
-ghost use Rattle.bb_rules.specs.Kinds.{only_generates};
-ghost use Rattle.bb_rules.specs.Plan.{lists_register};
-ghost use Rattle.bb_rules.specs.Rules.{IsPure, MayCompact, Pure, Sessions, Compacted};
+ghost use Rattle.bb_base.specs.Net.{Netlist};
+ghost use Rattle.bb_terms.specs.Kinds.{only_generates};
+ghost use Rattle.bb_terms.specs.Plan.{lists_register};
+ghost use Rattle.bb_terms.specs.Rules.{IsPure, MayCompact, Pure, Sessions, Compacted};
 ghost use Rattle.bb_fits.specs.Answers.{IsVerdict};
 ghost use Rattle.bb_fits.specs.Tables.{IsFound, MayBeSession, AreListed, IsListedIn};
 
-use bb_rules::{Cell, Plan, Register, Session};
+use bb_terms::{Cell, Plan, Register, Session};
 use std::alloc::{AllocError, Global};
 
 /// The most registers that sessions list together.

@@ -1,16 +1,16 @@
 // The first ten rules in their order.
 
 ghost use Rattle.std.specs.Prelude.{◌≡◌, ℕ, IfOk};
-ghost use Rattle.bb_netlist.specs.Net.{Netlist as NetlistValue};
-ghost use Rattle.bb_rules.specs.Plan.{PlanValue, chain};
-ghost use Rattle.bb_rules.specs.Rules.{IsFrame};
+ghost use Rattle.bb_base.specs.Net.{Netlist as NetlistValue};
+ghost use Rattle.bb_terms.specs.Plan.{PlanValue, chain};
+ghost use Rattle.bb_terms.specs.Rules.{IsFrame};
 ghost use Rattle.bb_fits.specs.Answers.{MeetsTo, IsMisfitTo};
 
 use crate::{
     apart, chain, columns, compacted, frame, kinds, pure, registers, room, served, sessions,
 };
-use bb_netlist::Netlist;
-use bb_rules::{Cell, Plan};
+use bb_base::Netlist;
+use bb_terms::{Cell, Plan};
 use std::alloc::{AllocError, Global};
 
 /// A rule that a plan doesn't meet, by its number from 1, and the place at which it fails first.

@@ -1,7 +1,7 @@
 ghost use Rattle.std.specs.Prelude.{◌≡◌, IfOk};
-ghost use Rattle.bb_rules.specs.Plan.{chain};
+ghost use Rattle.bb_terms.specs.Plan.{chain};
 
-use bb_rules::{Cell, Plan};
+use bb_terms::{Cell, Plan};
 use std::alloc::{AllocError, Global};
 
 /// The scan chain: all cells, register after register.

@@ -1,13 +1,13 @@
 ghost use Rattle.std.specs.Prelude.{◌≡◌, length, IfOk};
-ghost use Rattle.bb_netlist.specs.Net.{driven};
-ghost use Rattle.bb_rules.specs.Plan.{PlanValue, chain};
-ghost use Rattle.bb_rules.specs.Rules.{Served, IsServed, net_numbers};
+ghost use Rattle.bb_base.specs.Net.{driven};
+ghost use Rattle.bb_terms.specs.Plan.{PlanValue, chain};
+ghost use Rattle.bb_terms.specs.Rules.{Served, IsServed, net_numbers};
 ghost use Rattle.bb_fits.specs.Answers.{IsVerdict};
 ghost use Rattle.bb_fits.specs.Tables.{IsFound, AreOutputs, AreStanding, is_served};
 
 use crate::table::{OnNet, output_marks, standing};
-use bb_netlist::{Driver, NetId, Netlist};
-use bb_rules::Cell;
+use bb_base::{Driver, NetId, Netlist};
+use bb_terms::Cell;
 use std::alloc::{AllocError, Global};
 
 /// Rule 5, over the chain of a plan: an input has an Input cell, a flip-flop's q a State cell, or Split and Watch, and an output that a

@@ -2,15 +2,15 @@
 
 ghost use Rattle.std.specs.Prelude.{◌≡◌, ◌↔◌, ◌<◌, ℕ, length, All, IfOk, IsTrue};
 ghost use Rattle.bb_base.specs.Places.{EachAt};
-ghost use Rattle.bb_netlist.specs.Net.{Netlist as NetlistValue};
-ghost use Rattle.bb_rules.specs.Plan.{PlanValue, chain};
-ghost use Rattle.bb_rules.specs.Rules.{Fits, MayStand, IsFrame, IsColumn, Kinds, Apart, Columns};
+ghost use Rattle.bb_base.specs.Net.{Netlist as NetlistValue};
+ghost use Rattle.bb_terms.specs.Plan.{PlanValue, chain};
+ghost use Rattle.bb_terms.specs.Rules.{Fits, MayStand, IsFrame, IsColumn, Kinds, Apart, Columns};
 ghost use Rattle.bb_fits.specs.Answers.{IsVerdict};
 ghost use Rattle.bb_fits.specs.Tables.{IsFound, AreOutputs, AreBlank, IsApartIn, may_stand};
 
 use crate::table::{BLANK, OnNet, output_marks};
-use bb_netlist::{Driver, NetId, Netlist};
-use bb_rules::{Cell, Kind, Plan};
+use bb_base::{Driver, NetId, Netlist};
+use bb_terms::{Cell, Kind, Plan};
 use std::alloc::{AllocError, Global};
 
 /// Rule 3, over the chain of a plan: a cell's net exists and fits its kind. The place is the cell.

@@ -4,8 +4,8 @@ ghost use Rattle.std.specs.Prelude.{◌≡◌, ◌||◌, ◌<◌, ℕ, false, le
 ghost use Rattle.std.specs.List.{list_any};
 ghost use Rattle.bb_fits.specs.Tables.{AreOutputs, AreStanding, with_kind, meets};
 
-use bb_netlist::{NetId, Netlist};
-use bb_rules::{Cell, Kind};
+use bb_base::{NetId, Netlist};
+use bb_terms::{Cell, Kind};
 use std::alloc::{AllocError, Global};
 
 /// The kinds of the cells on a net.

@@ -3,7 +3,7 @@ use Rattle.std.proofs.Common.{◌≡◌, ℕ, List, [], ◌∷◌, ◌++◌, map
 use Rattle.std.proofs.lemmas.List.{append-nil}
 use Rattle.std.proofs.lemmas.List.Concat.{flat_map-append}
 use Rattle.std.specs.List.{flat_map}
-use Rattle.bb_rules.specs.Plan.{PlanValue}
+use Rattle.bb_terms.specs.Plan.{PlanValue}
 use Rattle.bb_spell.specs.Canonical.{with_feed}
 use Rattle.bb_forms.specs.ScheduleText.{width_line, degree_line, mask_line, frame_lines, register_lines, session_line, cycles_line, test_cycles, schedule_text}
 

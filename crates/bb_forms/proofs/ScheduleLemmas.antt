@@ -8,10 +8,10 @@ use Rattle.std.proofs.lemmas.List.{append-nil, take-append-drop}
 use Rattle.std.proofs.lemmas.List.Concat.{flat_map-append}
 use Rattle.bb_base.proofs.Lists.{all_join, map_join}
 use Rattle.bb_base.specs.Words.{is_word_byte}
-use Rattle.bb_rules.specs.declared.kind.Kind.{Kind}
-use Rattle.bb_rules.specs.declared.kind.Kind.TheVariants.{Input, State, Split, Cut, Watch, Output}
-use Rattle.bb_rules.specs.declared.plan.Cell.{Cell}
-use Rattle.bb_rules.specs.Plan.{RegisterValue, PlanValue}
+use Rattle.bb_terms.specs.declared.kind.Kind.{Kind}
+use Rattle.bb_terms.specs.declared.kind.Kind.TheVariants.{Input, State, Split, Cut, Watch, Output}
+use Rattle.bb_terms.specs.declared.plan.Cell.{Cell}
+use Rattle.bb_terms.specs.Plan.{RegisterValue, PlanValue}
 use Rattle.bb_spell.specs.Front.{◌>>=◌, begins_with, after_mark, word_of, after_word}
 use Rattle.bb_spell.specs.TextLines.{IsLine}
 use Rattle.bb_spell.proofs.Again.{front_join, back_join, pass_from_all}

@@ -3,7 +3,7 @@ use Rattle.std.proofs.Common.{◌≡◌, ◌≢◌, ℕ, ◌+◌, min, List, [],
 use Rattle.bb_spell.specs.TextLines.{first_line}
 use Rattle.bb_forms.specs.Forms.{IsFirstUnformed, IsUnformedLine}
 use Rattle.bb_forms.specs.Reading.{HasLed}
-use Rattle.bb_rules.specs.Plan.{PlanValue}
+use Rattle.bb_terms.specs.Plan.{PlanValue}
 use Rattle.bb_forms.specs.ScheduleText.{schedule_lines, schedule_text, IsFormedPlan, AreScheduleLines}
 use Rattle.bb_forms.specs.declared.schedule_reader.ScheduleStage.{ScheduleStage}
 use Rattle.bb_forms.specs.declared.schedule_reader.ScheduleStage.TheVariants.{Head, End}

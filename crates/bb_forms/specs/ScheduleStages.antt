@@ -1,10 +1,10 @@
 -- How a text of a plan is read line by line. No public contract cites this.
 use Rattle.std.specs.Prelude.{ℕ, ◌==◌, ◌^◌, ◌≤◌, nat_lt, List, [], ◌∷◌, ◌++◌, length, codes, Option, Some, None, if◌then◌else◌}
 use Rattle.std.specs.Str.{bytes_eq}
-use Rattle.bb_rules.specs.declared.kind.Kind.{Kind}
-use Rattle.bb_rules.specs.declared.kind.Kind.TheVariants.{Input, State, Split, Cut, Watch, Output}
-use Rattle.bb_rules.specs.declared.plan.Cell.{Cell}
-use Rattle.bb_rules.specs.Plan.{RegisterValue, PlanValue}
+use Rattle.bb_terms.specs.declared.kind.Kind.{Kind}
+use Rattle.bb_terms.specs.declared.kind.Kind.TheVariants.{Input, State, Split, Cut, Watch, Output}
+use Rattle.bb_terms.specs.declared.plan.Cell.{Cell}
+use Rattle.bb_terms.specs.Plan.{RegisterValue, PlanValue}
 use Rattle.bb_spell.specs.Front.{◌>>=◌, begins_with, after_mark, at_end, word_of, after_word}
 use Rattle.bb_forms.specs.declared.schedule_reader.ScheduleStage.{ScheduleStage}
 use Rattle.bb_forms.specs.declared.schedule_reader.ScheduleStage.TheVariants.{Head, Width, Degree, Mask, Registers, Cells, Sessions, Cycles, End}

@@ -1,7 +1,7 @@
 //! Laws about the forms, as contracts of functions without a body.
 
 ghost use Rattle.std.specs.Prelude.{◌≡◌, ℕ, List};
-ghost use Rattle.bb_rules.specs.Plan.{PlanValue};
+ghost use Rattle.bb_terms.specs.Plan.{PlanValue};
 ghost use Rattle.bb_forms.specs.declared.signature.Signature.{Signature};
 ghost use Rattle.bb_forms.specs.CertificateText.{CertificateValue, IsFormedCertificate, AreCertificateLines, certificate_text};
 ghost use Rattle.bb_forms.specs.Forms.{IsFirstUnformed};

@@ -5,7 +5,7 @@ ghost use Rattle.bb_forms.specs.Fields.{number_word};
 ghost use Rattle.bb_forms.specs.ScheduleText.{kind_word, cell_line, register_lines, session_line, test_cycles, frame_lines, schedule_text as text_of};
 
 use crate::fields::{write_field, write_hex, write_hex_line, write_number_line};
-use bb_rules::{Cell, Kind, Plan, Register, Session};
+use bb_terms::{Cell, Kind, Plan, Register, Session};
 use std::alloc::{AllocError, Global};
 
 /// The cycles of the whole test run: one that clears the control, and run and unload cycles for each session.

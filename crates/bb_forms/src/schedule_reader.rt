@@ -1,5 +1,5 @@
 ghost use Rattle.std.specs.Prelude.{◌≡◌, ◌≢◌, ◌<◌, ◌≤◌, ◌^◌, ℕ, length, [], None, IfOk, IfSome, IsSome, IsErrOf};
-ghost use Rattle.bb_rules.specs.Plan.{PlanValue};
+ghost use Rattle.bb_terms.specs.Plan.{PlanValue};
 ghost use Rattle.bb_spell.specs.Front.{IsRead};
 ghost use Rattle.bb_forms.specs.Fields.{field_limit};
 ghost use Rattle.bb_forms.specs.Forms.{IsUnformedLine};
@@ -10,9 +10,9 @@ ghost use Rattle.bb_forms.specs.ScheduleStages.{worded_kind, cell_of, session_of
 use crate::fault::{FormFault, bad_line};
 use crate::fields::{read_field, read_field_line, read_hex, read_hex_line, read_number_line};
 use crate::schedule_printer::test_cycles;
-use bb_netlist::NetId;
-use bb_rules::{Cell, Kind, Plan, Register, Session};
+use bb_base::NetId;
 use bb_spell::{LineFault, after, begins_with, next_line, word_at};
+use bb_terms::{Cell, Kind, Plan, Register, Session};
 use std::alloc::Global;
 
 /// How far a text has come.

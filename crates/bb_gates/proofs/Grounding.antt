@@ -6,8 +6,8 @@ use Rattle.std.specs.List.{HoldsAt}
 use Rattle.std.specs.Option.{option_copied}
 use Rattle.std.specs.Borrow.{Bor}
 use Rattle.std.proofs.lemmas.Option.{slice_get_past, slice_get_read}
-use Rattle.bb_drive.specs.Work.{Work, Makes}
-use Rattle.bb_gates.specs.Making.{Outs, New, To, first_out, other_outs, each_choice}
+use Rattle.bb_fault.specs.Work.{Work, Makes}
+use Rattle.bb_scope.specs.Making.{Outs, New, To, first_out, other_outs, each_choice}
 use Rattle.bb_gates.specs.Targets.{outs_after, one_choice}
 
 -- where each gate goes

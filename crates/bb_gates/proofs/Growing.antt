@@ -10,15 +10,15 @@ use Rattle.bb_parse.specs.declared.syntax.Item.TheVariants as item
 use Rattle.bb_parse.specs.declared.syntax.Conns.{Conns}
 use Rattle.bb_parse.specs.declared.syntax.Step.{Step}
 use Rattle.bb_parse.specs.declared.syntax.Step.TheVariants as step
-use Rattle.bb_gates.specs.declared.value.Bit.{Bit}
-use Rattle.bb_gates.specs.declared.value.Bit.TheVariants.{Net, Fixed}
+use Rattle.bb_scope.specs.declared.value.Bit.{Bit}
+use Rattle.bb_scope.specs.declared.value.Bit.TheVariants.{Net, Fixed}
 use Rattle.bb_scope.specs.declared.cells.Body.{Body}
 use Rattle.bb_scope.specs.declared.cells.Body.TheVariants.{FlipFlop, Gate, SecondInverted, Choice}
 use Rattle.bb_scope.specs.Cells.{Kind, kind_of, Pin, pins_of}
 use Rattle.bb_scope.specs.References.{ref_bits}
 use Rattle.bb_scope.specs.Terminals.{is_last, outs_of, ins_of}
-use Rattle.bb_drive.specs.Work.{Work, drive, make, make_onto, constant}
-use Rattle.bb_gates.specs.Making.{Outs, New, To, Read, grounded, first_out, other_outs, each_alone, each_pair, each_choice, inverted, joined_by, choice_between, last_value, not_made, two_made, choice_made, step_made, steps_made, terminal_made, terminals_made, copied_onto, makes_gates, assigned, driven_bits, all_driven, prim_made, pins_made, nets_of, out_of, out_net, flip_flop_made, all_nets, gate_made, second_inverted, multiplexer_made, body_made, kind_made, cell_made, item_made, items_made, work_of}
+use Rattle.bb_fault.specs.Work.{Work, drive, make, make_onto, constant}
+use Rattle.bb_scope.specs.Making.{Outs, New, To, Read, grounded, first_out, other_outs, each_alone, each_pair, each_choice, inverted, joined_by, choice_between, last_value, not_made, two_made, choice_made, step_made, steps_made, terminal_made, terminals_made, copied_onto, makes_gates, assigned, driven_bits, all_driven, prim_made, pins_made, nets_of, out_of, out_net, flip_flop_made, all_nets, gate_made, second_inverted, multiplexer_made, body_made, kind_made, cell_made, item_made, items_made, work_of}
 
 -- operands and operators ------------------------------------------------
 

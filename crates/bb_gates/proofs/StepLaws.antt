@@ -6,10 +6,10 @@ use Rattle.bb_base.specs.Variables.{Entry}
 use Rattle.bb_parse.specs.declared.syntax.Ref.{Ref}
 use Rattle.bb_parse.specs.declared.syntax.Step.{Step}
 use Rattle.bb_parse.specs.declared.syntax.Step.TheVariants as step
-use Rattle.bb_gates.specs.declared.value.Bit.{Bit}
-use Rattle.bb_gates.specs.declared.value.Bit.TheVariants.{Fixed}
-use Rattle.bb_drive.specs.Work.{Makes, Work}
-use Rattle.bb_gates.specs.Making.{as_value, const_bits, copies, grounded, terminal_made, copied_onto}
+use Rattle.bb_scope.specs.declared.value.Bit.{Bit}
+use Rattle.bb_scope.specs.declared.value.Bit.TheVariants.{Fixed}
+use Rattle.bb_fault.specs.Work.{Makes, Work}
+use Rattle.bb_scope.specs.Making.{as_value, const_bits, copies, grounded, terminal_made, copied_onto}
 use Rattle.bb_scope.specs.References.{ref_bits}
 
 -- a bit past a word is 0

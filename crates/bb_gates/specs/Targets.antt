@@ -3,8 +3,8 @@
 use Rattle.std.specs.Prelude.{ℕ, zero, suc, List, [], ◌∷◌, ◌++◌, Option, Some, None}
 use Rattle.std.specs.Borrow.{Bor}
 use Rattle.bb_base.specs.declared.operator.Op.TheVariants.{And, Or}
-use Rattle.bb_drive.specs.Work.{◌>>=◌, Work, make, make_onto}
-use Rattle.bb_gates.specs.Making.{Outs, New, To, other_outs}
+use Rattle.bb_fault.specs.Work.{◌>>=◌, Work, make, make_onto}
+use Rattle.bb_scope.specs.Making.{Outs, New, To, other_outs}
 
 -- where gates go, as the code has it
 abbrev pub outs_in : Option (Bor (List ℕ)) → Outs

@@ -1,14 +1,13 @@
 //! The gates of operators.
 
 ghost use Rattle.std.specs.Prelude.{◌≡◌, ◌<◌, ◌^◌, ◌∷◌, [], ◌++◌, IfOk};
-ghost use Rattle.bb_gates.specs.Making.{grounded, each_alone, each_pair, each_choice, as_value, inverted, joined_by, choice_between, first_out};
-ghost use Rattle.bb_drive.specs.Work.{Makes};
+ghost use Rattle.bb_scope.specs.Making.{grounded, each_alone, each_pair, each_choice, as_value, inverted, joined_by, choice_between, first_out};
+ghost use Rattle.bb_fault.specs.Work.{Makes};
 ghost use Rattle.bb_gates.specs.Targets.{outs_in, outs_after, one_choice};
 
-use crate::value::Bit;
-use bb_base::Op;
-use bb_drive::{Work, constant};
-use bb_netlist::NetId;
+use bb_base::{NetId, Op};
+use bb_fault::{Work, constant};
+use bb_scope::Bit;
 use smallvec::SmallVec;
 use std::alloc::{AllocError, Global};
 

@@ -5,15 +5,13 @@ ghost use Rattle.bb_scope.specs.Names.{item_names};
 ghost use Rattle.bb_base.specs.Variables.{bit_count};
 ghost use Rattle.bb_scope.specs.Uses.{AreNext};
 ghost use Rattle.bb_scope.specs.References.{ref_bits};
-ghost use Rattle.bb_gates.specs.Making.{item_made, items_made, work_of};
+ghost use Rattle.bb_scope.specs.Making.{item_made, items_made, work_of};
 
 use crate::cell_gates::cell_made;
 use crate::prims::{add_ref_bits, prim_made};
 use crate::steps::assigned;
-use bb_base::{Name, Variable};
-use bb_drive::Work;
-use bb_fault::bit_count;
-use bb_netlist::NetId;
+use bb_base::{Name, NetId, Variable};
+use bb_fault::{Work, bit_count};
 use bb_parse::{Item, Ref};
 use bb_scope::{Scope, behind, behind_item};
 use indexmap::IndexMap;

@@ -1,6 +1,6 @@
 //! Gates: what the items of a module make, in the text's order.
 //!
-//! - `work_of` answers exactly the gates and flip-flops that `specs/Making.antt` says.
+//! - `work_of` answers exactly the gates and flip-flops that `specs/Making.antt` of `bb_scope` says.
 #![tactic(auto)]
 
 mod bitwise;
@@ -8,7 +8,5 @@ mod cell_gates;
 mod items;
 mod prims;
 mod steps;
-mod value;
 
 pub use items::work_of;
-pub use value::Bit;

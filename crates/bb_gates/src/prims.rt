@@ -6,13 +6,12 @@ ghost use Rattle.bb_scope.specs.Names.{steps_names};
 ghost use Rattle.bb_scope.specs.Uses.{AreNext};
 ghost use Rattle.bb_scope.specs.Terminals.{outs_of, ins_of};
 ghost use Rattle.bb_scope.specs.References.{ref_bits};
-ghost use Rattle.bb_gates.specs.Making.{terminals_made, driven_bits, all_driven, prim_made};
-ghost use Rattle.bb_drive.specs.Work.{Makes};
+ghost use Rattle.bb_scope.specs.Making.{terminals_made, driven_bits, all_driven, prim_made};
+ghost use Rattle.bb_fault.specs.Work.{Makes};
 
 use crate::steps::terminal_made;
-use bb_base::Op;
-use bb_drive::Work;
-use bb_netlist::NetId;
+use bb_base::{NetId, Op};
+use bb_fault::Work;
 use bb_parse::{Expr, Ref, Step};
 use bb_scope::{Bits, Scope, behind_steps, behind_terms};
 use std::alloc::AllocError;

@@ -4,17 +4,15 @@ ghost use Rattle.std.specs.Prelude.{◌≡◌, ◌<◌, ◌∷◌, [], ◌-◌, 
 ghost use Rattle.std.specs.List.{range_with_len};
 ghost use Rattle.bb_scope.specs.Names.{step_names, steps_names};
 ghost use Rattle.bb_scope.specs.Uses.{AreNext};
-ghost use Rattle.bb_gates.specs.Making.{as_value, const_bits, side_by_side, copies, not_made, two_made, choice_made, repeat_made, step_made, steps_made, terminal_made, copied_onto, makes_gates, assigned};
-ghost use Rattle.bb_drive.specs.Work.{Makes};
+ghost use Rattle.bb_scope.specs.Making.{as_value, const_bits, side_by_side, copies, not_made, two_made, choice_made, repeat_made, step_made, steps_made, terminal_made, copied_onto, makes_gates, assigned};
+ghost use Rattle.bb_fault.specs.Work.{Makes};
 ghost use Rattle.bb_gates.specs.Targets.{outs_in};
 
 use crate::bitwise::{chosen, grounded, inverted, joined_by};
-use crate::value::Bit;
-use bb_base::Op;
-use bb_drive::{Work, constant};
-use bb_netlist::NetId;
+use bb_base::{NetId, Op};
+use bb_fault::{Work, constant};
 use bb_parse::Step;
-use bb_scope::{Bits, Scope, behind_step};
+use bb_scope::{Bit, Bits, Scope, behind_step};
 use std::alloc::{AllocError, Global};
 use std::marker::Model;
 
@@ -26,7 +24,7 @@ struct Value {
 
 impl Model for Value {
     ghost use Rattle.std.specs.Prelude.{List};
-    ghost use Rattle.bb_gates.specs.declared.value.Bit.{Bit as BitValue};
+    ghost use Rattle.bb_scope.specs.declared.value.Bit.{Bit as BitValue};
 
     ghost Value = { List BitValue };
 
@@ -41,7 +39,7 @@ struct Values {
 
 impl Model for Values {
     ghost use Rattle.std.specs.Prelude.{List, reverse};
-    ghost use Rattle.bb_gates.specs.declared.value.Bit.{Bit as BitValue};
+    ghost use Rattle.bb_scope.specs.declared.value.Bit.{Bit as BitValue};
 
     ghost Value = { List (List BitValue) };
 

@@ -3,8 +3,8 @@ use Rattle.std.proofs.Common.{◌≡◌, ℕ, ◌+◌, ◌*◌, ◌/◌, ◌%◌
 use Rattle.std.proofs.lemmas.Bool.Decides.{nat_tests}
 use Rattle.std.proofs.Math.Nat.{pow-suc}
 use Rattle.bb_base.specs.Booleans.{xor, parity_of_bits}
-use Rattle.bb_gf2.specs.Bits.{bits, from_bits, picked}
-use Rattle.bb_gf2.specs.Parity.{parity, code_bit, code_of_bits}
+use Rattle.bb_base.specs.Bits.{bits, from_bits, picked}
+use Rattle.bb_base.specs.Parity.{parity, code_bit, code_of_bits}
 use Rattle.bb_gf2.proofs.Codes.{low_bit, parity_zero, parity_step, code_step, code_zero_state}
 use Rattle.bb_gf2.proofs.Pairing.{from_bits_half, from_bits_low}
 

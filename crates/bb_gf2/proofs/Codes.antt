@@ -7,7 +7,7 @@ use Rattle.std.proofs.lemmas.Nat.{and_comm, xor_shr, and_shr}
 use lib.Arith.{bin_ind}
 use lib.Count.{ones, ones_step}
 use Rattle.bb_base.specs.Booleans.{xor}
-use Rattle.bb_gf2.specs.Parity.{parity, code_bit}
+use Rattle.bb_base.specs.Parity.{parity, code_bit}
 use Rattle.bb_gf2.proofs.Xor.{swap_xor}
 
 -- the lowest bit of a number

@@ -5,8 +5,8 @@ use Rattle.std.proofs.lemmas.Nat.Bits.{bit_at_lowest, bit_at-suc}
 use Rattle.std.proofs.Math.Nat.{pow-suc}
 use lib.Bits.{xor_zero_r, xor_assoc, xor_self, xor_comm, block_half, block_odd}
 use Rattle.bb_base.specs.Booleans.{xor}
-use Rattle.bb_gf2.specs.Bits.{picked}
-use Rattle.bb_gf2.specs.Span.{xor_of, combined}
+use Rattle.bb_base.specs.Bits.{picked}
+use Rattle.bb_base.specs.Span.{xor_of, combined}
 use Rattle.bb_gf2.proofs.Codes.{low_bit, xor_half, xor_low}
 
 -- a number where a test holds, else 0

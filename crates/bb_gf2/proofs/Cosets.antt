@@ -11,7 +11,7 @@ use Rattle.std.proofs.lemmas.Nat.{shr_split, leading_top, pow_pos}
 use Rattle.std.proofs.lemmas.Nat.Bits.{bit_at_above, bit_at_cat_high}
 use lib.Bits.{xor_zero_r, xor_assoc, xor_self, xor_comm, xor_lt, xor_block}
 use lib.Count.{count_leading_zeros}
-use Rattle.bb_gf2.specs.Span.{combined, IsInSpan, IsInCoset}
+use Rattle.bb_base.specs.Span.{combined, IsInSpan, IsInCoset}
 use Rattle.bb_base.specs.Firsts.{IsLeast}
 use Rattle.bb_gf2.specs.Reduced.{IsNewRow, IsReduced}
 use Rattle.bb_gf2.proofs.Codes.{low_bit}

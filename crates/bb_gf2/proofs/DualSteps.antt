@@ -8,11 +8,11 @@ use Rattle.std.proofs.lemmas.Nat.Bits.{bit_at-lt, bit_at_cat_low, bit_at_cat_hig
 use Rattle.std.proofs.Math.Nat.{pow-suc}
 use lib.Bits.{xor_comm}
 use Rattle.bb_base.specs.Booleans.{xor}
-use Rattle.bb_gf2.specs.Bits.{from_bits}
-use Rattle.bb_gf2.specs.Parity.{code_bit, code_word}
-use Rattle.bb_gf2.specs.Span.{combined, IsDependence}
+use Rattle.bb_base.specs.Bits.{from_bits}
+use Rattle.bb_base.specs.Parity.{code_bit, code_word}
+use Rattle.bb_base.specs.Span.{combined, IsDependence}
 use Rattle.bb_base.specs.Firsts.{IsLeast}
-use Rattle.bb_gf2.specs.Dual.{IsDual, AreLeastDuals}
+use Rattle.bb_base.specs.Dual.{IsDual, AreLeastDuals}
 use Rattle.bb_gf2.proofs.Xor.{xor_self_bits, xor_false_bits}
 use Rattle.bb_gf2.proofs.Codes.{code_xor, code_xor_state, code_comm, code_zero}
 use Rattle.bb_gf2.proofs.Combine.{where_true, combined_push, combined_low, xor_twice}

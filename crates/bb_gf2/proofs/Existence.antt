@@ -9,10 +9,10 @@ use Rattle.std.proofs.lemmas.Nat.Bits.{bit_at_lowest, bit_at-suc, bit_at-lt, sam
 use Rattle.std.proofs.Math.Nat.{mod-eq_of_lt}
 use lib.Arith.{bin_ind}
 use lib.Bits.{xor_lt}
-use Rattle.bb_gf2.specs.Bits.{from_bits}
-use Rattle.bb_gf2.specs.Parity.{parity, code_bit, code_word}
-use Rattle.bb_gf2.specs.Span.{combined, IsDependence, IsIndependent}
-use Rattle.bb_gf2.specs.Dual.{IsDual, AreDuals, AreLeastDuals}
+use Rattle.bb_base.specs.Bits.{from_bits}
+use Rattle.bb_base.specs.Parity.{parity, code_bit, code_word}
+use Rattle.bb_base.specs.Span.{combined, IsDependence, IsIndependent}
+use Rattle.bb_base.specs.Dual.{IsDual, AreDuals, AreLeastDuals}
 use Rattle.bb_gf2.proofs.Codes.{low_bit, code_comm, code_zero}
 use Rattle.bb_gf2.proofs.Combine.{where_true, combined_cons}
 use Rattle.bb_gf2.proofs.Low.{lowest_coded, lowest_keeps}

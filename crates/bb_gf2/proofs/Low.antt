@@ -9,7 +9,7 @@ use Rattle.bb_base.specs.Booleans.{xor}
 use Rattle.std.specs.Int.{bit_at}
 use Rattle.std.proofs.lemmas.Nat.Bits.{bit_at_lowest, bit_at-suc}
 use Rattle.std.proofs.Math.Nat.{pow-suc}
-use Rattle.bb_gf2.specs.Parity.{code_bit}
+use Rattle.bb_base.specs.Parity.{code_bit}
 use Rattle.bb_gf2.proofs.Codes.{low_bit, xor_half, xor_low, code_step, code_zero_state}
 
 -- s does not lower a

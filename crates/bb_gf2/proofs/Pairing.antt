@@ -7,10 +7,10 @@ use Rattle.std.proofs.lemmas.List.{get_or-map, length-map}
 use Rattle.std.proofs.lemmas.Nat.Bits.{bit_at_lowest, bit_at-suc}
 use Rattle.std.proofs.Math.Nat.{pow-suc}
 use Rattle.bb_base.specs.Booleans.{xor}
-use Rattle.bb_gf2.specs.Bits.{from_bits}
-use Rattle.bb_gf2.specs.Parity.{code_bit, code_word}
-use Rattle.bb_gf2.specs.Span.{combined}
-use Rattle.bb_gf2.specs.Dual.{IsDual, AreDuals, AreLeastDuals}
+use Rattle.bb_base.specs.Bits.{from_bits}
+use Rattle.bb_base.specs.Parity.{code_bit, code_word}
+use Rattle.bb_base.specs.Span.{combined}
+use Rattle.bb_base.specs.Dual.{IsDual, AreDuals, AreLeastDuals}
 use Rattle.bb_gf2.proofs.Codes.{low_bit, code_xor, code_comm, code_zero}
 use Rattle.bb_gf2.proofs.Combine.{where_true, combined_cons}
 use Rattle.bb_gf2.proofs.Low.{Keeps, keeps_xor}

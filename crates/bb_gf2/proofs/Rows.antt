@@ -6,11 +6,11 @@ use Rattle.std.proofs.lemmas.List.{take_more, take-append-drop}
 use Rattle.std.proofs.lemmas.Nat.{one_shl}
 use Rattle.std.proofs.Math.Nat.{pow-le-pow_right}
 use lib.Bits.{or_shifted_r}
-use Rattle.bb_gf2.specs.Bits.{from_bits}
-use Rattle.bb_gf2.specs.Parity.{code_bit, code_word}
-use Rattle.bb_gf2.specs.Span.{combined, IsDependence}
+use Rattle.bb_base.specs.Bits.{from_bits}
+use Rattle.bb_base.specs.Parity.{code_bit, code_word}
+use Rattle.bb_base.specs.Span.{combined, IsDependence}
 use Rattle.bb_base.specs.Firsts.{IsLeast}
-use Rattle.bb_gf2.specs.Dual.{AreLeastDuals}
+use Rattle.bb_base.specs.Dual.{AreLeastDuals}
 use Rattle.bb_gf2.proofs.Combine.{combined_front}
 use Rattle.bb_gf2.proofs.DualSteps.{subset, rest, with_last, subset_below, least_dependence, new_dual, more_duals}
 

@@ -6,9 +6,9 @@ use Rattle.std.proofs.lemmas.List.{map_more, length-map, length-take-le, length-
 use Rattle.std.proofs.lemmas.Nat.{one_shl, shr-shr}
 use Rattle.std.proofs.Math.Nat.{pow-suc}
 use lib.Bits.{xor_assoc, or_shifted_r}
-use Rattle.bb_gf2.specs.Bits.{from_bits}
-use Rattle.bb_gf2.specs.Parity.{code_bit, code_word}
-use Rattle.bb_gf2.specs.Span.{combined}
+use Rattle.bb_base.specs.Bits.{from_bits}
+use Rattle.bb_base.specs.Parity.{code_bit, code_word}
+use Rattle.bb_base.specs.Span.{combined}
 use Rattle.bb_gf2.proofs.Combine.{where_true, combined_cons}
 use Rattle.bb_gf2.proofs.Pairing.{from_bits_below}
 

@@ -1,5 +1,1 @@
-pub mod Bits
-pub mod Parity
-pub mod Span
-pub mod Dual
 pub mod Reduced

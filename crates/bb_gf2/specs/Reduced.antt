@@ -1,6 +1,6 @@
 -- How a basis is stored: no member of the span of the rows before a row lowers it.
 use Rattle.std.specs.Prelude.{ℕ, ◌<◌, ◌≤◌, ◌^◌, List, length, take, slice_index, bit_xor}
-use Rattle.bb_gf2.specs.Span.{combined}
+use Rattle.bb_base.specs.Span.{combined}
 
 -- a row that is not 0, has 32 bits, and is the least that it makes with those before it
 pub record IsNewRow (before : List ℕ) (row : ℕ) : Type 0 where

@@ -2,10 +2,10 @@
 
 ghost use Rattle.std.specs.Prelude.{◌≡◌, ◌<◌, ◌^◌, ℕ, List, Bool, length, bit_and, bit_xor, slice_index};
 ghost use Rattle.bb_base.specs.Booleans.{xor, parity_of_bits};
-ghost use Rattle.bb_gf2.specs.Bits.{bits, from_bits};
-ghost use Rattle.bb_gf2.specs.Parity.{parity, code_bit, code_of_bits, code_word};
-ghost use Rattle.bb_gf2.specs.Span.{combined, IsIndependent};
-ghost use Rattle.bb_gf2.specs.Dual.{AreDuals, AreLeastDuals};
+ghost use Rattle.bb_base.specs.Bits.{bits, from_bits};
+ghost use Rattle.bb_base.specs.Parity.{parity, code_bit, code_of_bits, code_word};
+ghost use Rattle.bb_base.specs.Span.{combined, IsIndependent};
+ghost use Rattle.bb_base.specs.Dual.{AreDuals, AreLeastDuals};
 
 /// Independent rows have duals, and the exclusive or of the duals that a vector chooses is a state
 /// with that vector as its code bits.

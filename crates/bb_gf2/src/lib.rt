@@ -8,7 +8,7 @@
 //!   chooses is a state with that vector as its code bits (`any_vector`).
 //! - No call takes memory.
 //!
-//! `specs/Parity.antt` says what a code bit is, `specs/Span.antt` what a span and a dependent set
+//! `bb_base` has the definitions: `specs/Parity.antt` says what a code bit is, `specs/Span.antt` what a span and a dependent set
 //! of rows are, and `specs/Dual.antt` what a dual is; `specs/Bits.antt` has numbers as lists of bits.
 #![tactic(auto)]
 

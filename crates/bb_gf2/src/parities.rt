@@ -1,9 +1,9 @@
 // Parities, code bits, and the exclusive or of chosen rows.
 
 ghost use Rattle.std.specs.Prelude.{◌≡◌, ◌≤◌, length};
-ghost use Rattle.bb_gf2.specs.Bits.{from_bits};
-ghost use Rattle.bb_gf2.specs.Parity.{parity, code_bit, code_word};
-ghost use Rattle.bb_gf2.specs.Span.{combined};
+ghost use Rattle.bb_base.specs.Bits.{from_bits};
+ghost use Rattle.bb_base.specs.Parity.{parity, code_bit, code_word};
+ghost use Rattle.bb_base.specs.Span.{combined};
 
 /// Whether a number has an odd number of ones.
 pub fn parity(v: u32) -> bool

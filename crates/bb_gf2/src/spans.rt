@@ -2,7 +2,7 @@
 
 ghost use Rattle.std.specs.Prelude.{◌≡◌, ◌<◌, ◌≤◌, ◌^◌, ◌↔◌, ◌∷◌, ℕ, length, IsTrue};
 ghost use Rattle.std.specs.Bool.{OnTrue, OnFalse};
-ghost use Rattle.bb_gf2.specs.Span.{IsInSpan, IsInCoset};
+ghost use Rattle.bb_base.specs.Span.{IsInSpan, IsInCoset};
 ghost use Rattle.bb_base.specs.Firsts.{IsLeast};
 ghost use Rattle.bb_gf2.specs.Reduced.{IsReduced};
 

@@ -4,10 +4,10 @@
 
 ghost use Rattle.std.specs.Prelude.{◌≡◌, ◌<◌, ◌≤◌, ◌+◌, ◌++◌, ◌∷◌, [], ℕ, ◌==◌, length, true, false, IfOk, OnOk, IfErr, bit_xor, slice_index, if◌then◌else◌};
 ghost use Rattle.std.specs.Int.{bit_at};
-ghost use Rattle.bb_gf2.specs.Parity.{code_bit};
-ghost use Rattle.bb_gf2.specs.Span.{IsDependence, IsIndependent};
+ghost use Rattle.bb_base.specs.Parity.{code_bit};
+ghost use Rattle.bb_base.specs.Span.{IsDependence, IsIndependent};
 ghost use Rattle.bb_base.specs.Firsts.{IsLeast};
-ghost use Rattle.bb_gf2.specs.Dual.{AreLeastDuals};
+ghost use Rattle.bb_base.specs.Dual.{AreLeastDuals};
 
 use crate::parities::{code_mask, combined};
 use arrayvec::ArrayVec;

@@ -1,10 +1,10 @@
 -- What follows an accepted token completes the symbol that took it: expressions.
 use Rattle.std.proofs.Common.{◌≡◌, ℕ, ◌≤◌, zero, suc, List, [], ◌∷◌, ◌++◌, Some, None, false, refl, sym, ◌∙◌, ap, subst, arith, ◌==◌, if◌then◌else◌}
 use Rattle.std.proofs.lemmas.Bool.Decides.{nat_tests}
-use Rattle.bb_lex.specs.declared.token.Mark.TheVariants as marks
-use Rattle.bb_lex.specs.declared.token.Token.{Token}
-use Rattle.bb_lex.specs.declared.token.TokenKind.{TokenKind}
-use Rattle.bb_lex.specs.declared.token.TokenKind.TheVariants as kinds
+use Rattle.bb_base.specs.declared.token.Mark.TheVariants as marks
+use Rattle.bb_base.specs.declared.token.Token.{Token}
+use Rattle.bb_base.specs.declared.token.TokenKind.{TokenKind}
+use Rattle.bb_base.specs.declared.token.TokenKind.TheVariants as kinds
 use Rattle.bb_parse.specs.declared.draft.Draft.{Draft}
 use Rattle.bb_parse.specs.declared.symbol.Side.{Side}
 use Rattle.bb_parse.specs.declared.symbol.Made.TheVariants as made

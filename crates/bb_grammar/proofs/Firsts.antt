@@ -1,10 +1,10 @@
 -- What the tokens behind a tree begin with, so that a symbol that may be empty lets them pass.
 use Rattle.std.proofs.Common.{◌≡◌, ℕ, ◌<◌, ◌≤◌, List, [], ◌∷◌, Bool, true, false, not, refl, sym, ap, subst, arith, if◌then◌else◌}
-use Rattle.bb_lex.specs.declared.token.Mark.{Mark}
-use Rattle.bb_lex.specs.declared.token.Mark.TheVariants as marks
-use Rattle.bb_lex.specs.declared.token.Token.{Token}
-use Rattle.bb_lex.specs.declared.token.TokenKind.{TokenKind}
-use Rattle.bb_lex.specs.declared.token.TokenKind.TheVariants as kinds
+use Rattle.bb_base.specs.declared.token.Mark.{Mark}
+use Rattle.bb_base.specs.declared.token.Mark.TheVariants as marks
+use Rattle.bb_base.specs.declared.token.Token.{Token}
+use Rattle.bb_base.specs.declared.token.TokenKind.{TokenKind}
+use Rattle.bb_base.specs.declared.token.TokenKind.TheVariants as kinds
 use Rattle.bb_parse.specs.declared.draft.Draft.{Draft}
 use Rattle.bb_parse.specs.declared.symbol.Symbol.{Symbol}
 use Rattle.bb_parse.specs.declared.symbol.Symbol.TheVariants as symbols

@@ -1,7 +1,7 @@
 -- Each text has a module or a first flaw, and one of them.
 use Rattle.std.proofs.Common.{◌≡◌, ◌⊎◌, inl, inr, ℕ, List, [], ◌∷◌, ◌++◌, Result, Ok, Err, refl, sym, ap, ◌∙◌, subst, append_assoc, append-nil}
-use Rattle.bb_lex.specs.declared.token.Token.{Token}
-use Rattle.bb_lex.specs.declared.fault.LexFault.{LexFault}
+use Rattle.bb_base.specs.declared.token.Token.{Token}
+use Rattle.bb_base.specs.declared.lex_fault.LexFault.{LexFault}
 use Rattle.bb_lex.specs.Text as lexical
 use Rattle.bb_parse.specs.declared.syntax.Module.{Module}
 use Rattle.bb_parse.specs.declared.fault.ParseFault.{ParseFault}
@@ -9,7 +9,7 @@ use Rattle.bb_parse.specs.declared.fault.ParseFault.TheVariants.{Unreadable, NoM
 use Rattle.bb_parse.specs.Grammar.{file}
 use Rattle.bb_parse.specs.Meaning.{Denotes, IsFront, HasFirstBad}
 use Rattle.bb_parse.specs.Machine.{run, start, end}
-use Rattle.bb_parse.specs.Texts.{IsModuleOf, HasBadToken, IsCutShort, HasLexFault, IsUnreadable, HasParseFault}
+use Rattle.bb_grammar.specs.Texts.{IsModuleOf, HasBadToken, IsCutShort, HasLexFault, IsUnreadable, HasParseFault}
 use Rattle.bb_grammar.proofs.Exact.{exact, split, stands}
 
 -- a text has one list of tokens, and one end

@@ -2,17 +2,17 @@
 use Rattle.std.proofs.Common.{◌<◌, ◌^◌, List, [], ◌∷◌, None, false, refl, arith}
 use Rattle.bb_base.specs.declared.keyword.Keyword.TheVariants as keys
 use Rattle.bb_base.specs.declared.keyword.Keyword.{Keyword}
-use Rattle.bb_lex.specs.declared.token.Mark.{Mark}
-use Rattle.bb_lex.specs.declared.token.Mark.TheVariants as marks
-use Rattle.bb_lex.specs.declared.token.Token.{Token}
-use Rattle.bb_lex.specs.declared.token.TokenKind.TheVariants as kinds
+use Rattle.bb_base.specs.declared.token.Mark.{Mark}
+use Rattle.bb_base.specs.declared.token.Mark.TheVariants as marks
+use Rattle.bb_base.specs.declared.token.Token.{Token}
+use Rattle.bb_base.specs.declared.token.TokenKind.TheVariants as kinds
 use Rattle.bb_parse.specs.declared.symbol.Symbol.{Symbol}
 use Rattle.bb_parse.specs.declared.symbol.Symbol.TheVariants as symbols
 use Rattle.bb_parse.specs.Trees.{Whole, Bit, AnExpr, NoChoice, AnOr, NoOrs, AnXor, NoXors, AnAnd, NoAnds, Expr, Constant, Braces, NoExprs, Target, NoLefts, Again, NoHeader, NoPorts, NoPins}
 use Rattle.bb_parse.specs.Grammar.{expr}
-use Rattle.bb_lex.specs.Ranges.{IsProper}
+use Rattle.bb_base.specs.Tokens.{IsProper}
 use Rattle.bb_base.specs.Name.{IsName, IsNameByte}
-use Rattle.bb_lex.specs.Ranges.{IsSize}
+use Rattle.bb_base.specs.Tokens.{IsSize}
 use Rattle.std.specs.List.{AllByRecursion}
 use Rattle.std.proofs.lemmas.List.Elements.{All-from_recursion}
 use Rattle.bb_grammar.proofs.Spelled.{token, spans, all_span}

@@ -2,15 +2,15 @@
 use Rattle.std.proofs.Common.{◌≡◌, ℕ, ◌+◌, ◌≤◌, List, [], ◌∷◌, Option, Some, None, Bool, true, false, subst, arith}
 use Rattle.std.specs.List.{AllByRecursion}
 use Rattle.bb_base.specs.declared.keyword.Keyword.TheVariants as keys
-use Rattle.bb_lex.specs.declared.token.Mark.TheVariants as marks
-use Rattle.bb_lex.specs.declared.token.Token.{Token}
-use Rattle.bb_lex.specs.declared.token.TokenKind.{TokenKind}
-use Rattle.bb_lex.specs.declared.token.TokenKind.TheVariants as kinds
+use Rattle.bb_base.specs.declared.token.Mark.TheVariants as marks
+use Rattle.bb_base.specs.declared.token.Token.{Token}
+use Rattle.bb_base.specs.declared.token.TokenKind.{TokenKind}
+use Rattle.bb_base.specs.declared.token.TokenKind.TheVariants as kinds
 use Rattle.bb_base.proofs.Lists.{all_join, all_map_back}
 use Rattle.bb_base.specs.declared.operator.Op.{Op}
 use Rattle.bb_base.specs.declared.operator.Op.TheVariants as ops
 use Rattle.bb_base.specs.declared.keyword.Keyword.{Keyword}
-use Rattle.bb_lex.specs.Ranges.{IsProperKind, IsProper}
+use Rattle.bb_base.specs.Tokens.{IsProperKind, IsProper}
 use Rattle.bb_base.specs.Variables.{IsRange}
 use Rattle.bb_base.specs.Name.{IsName}
 use Rattle.bb_base.specs.declared.variable.Role.TheVariants as roles

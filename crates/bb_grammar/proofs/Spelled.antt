@@ -1,10 +1,10 @@
 -- What the symbols of a stack span, without their values.
 use Rattle.std.proofs.Common.{◌≡◌, ℕ, List, [], ◌∷◌, Bool, Option}
 use Rattle.bb_base.specs.declared.keyword.Keyword.TheVariants as keys
-use Rattle.bb_lex.specs.declared.token.Mark.TheVariants as marks
-use Rattle.bb_lex.specs.declared.token.Token.{Token}
-use Rattle.bb_lex.specs.declared.token.TokenKind.{TokenKind}
-use Rattle.bb_lex.specs.declared.token.TokenKind.TheVariants as kinds
+use Rattle.bb_base.specs.declared.token.Mark.TheVariants as marks
+use Rattle.bb_base.specs.declared.token.Token.{Token}
+use Rattle.bb_base.specs.declared.token.TokenKind.{TokenKind}
+use Rattle.bb_base.specs.declared.token.TokenKind.TheVariants as kinds
 use Rattle.bb_parse.specs.declared.symbol.Symbol.{Symbol}
 use Rattle.bb_parse.specs.declared.symbol.Symbol.TheVariants as symbols
 use Rattle.bb_parse.specs.Spans.{Span, ◌⨾◌, nothing, key, mark, name, number, many}

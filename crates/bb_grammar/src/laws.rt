@@ -1,17 +1,17 @@
 //! What readers may rely on: the first bad token, and one module for each whole list of tokens.
 
 ghost use Rattle.std.specs.Prelude.{◌≡◌, ◌⊎◌, ◌↔◌, ℕ, List, ◌∷◌, ◌++◌, Ok, Err};
-ghost use Rattle.bb_lex.specs.declared.token.Token.{Token as TokenValue};
+ghost use Rattle.bb_base.specs.declared.token.Token.{Token as TokenValue};
 ghost use Rattle.bb_parse.specs.declared.syntax.Module.{Module as ModuleValue};
 ghost use Rattle.bb_parse.specs.declared.fault.ParseFault.{ParseFault as FaultValue};
 ghost use Rattle.bb_parse.specs.declared.fault.ParseFault.TheVariants.{Unreadable};
 ghost use Rattle.std.specs.List.{AllByRecursion};
 ghost use Rattle.bb_parse.specs.Meaning.{Denotes, IsFront, IsFirstBad, HasFirstBad};
-ghost use Rattle.bb_lex.specs.Ranges.{IsProper};
+ghost use Rattle.bb_base.specs.Tokens.{IsProper};
 ghost use Rattle.bb_parse.specs.Sound.{IsSoundModule};
 ghost use Rattle.bb_parse.specs.Machine.{Parsing, Failed, run, start, end, Rejects};
-ghost use Rattle.bb_parse.specs.Texts.{IsModuleOf, HasLexFault, HasParseFault};
-ghost use Rattle.bb_lex.specs.declared.fault.LexFault.{LexFault as LexValue};
+ghost use Rattle.bb_grammar.specs.Texts.{IsModuleOf, HasLexFault, HasParseFault};
+ghost use Rattle.bb_base.specs.declared.lex_fault.LexFault.{LexFault as LexValue};
 
 use bb_lex::one_reading;
 

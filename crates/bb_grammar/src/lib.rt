@@ -7,8 +7,8 @@
 //! - Where each token is one that a text may have, the module has names for names, its numbers are in their ranges, and its
 //!   gates have operators of keywords.
 //!
-//! The definitions are bb_parse's: `specs/Grammar.antt` has the productions, `specs/Meaning.antt` what module a tree stands for,
-//! `specs/Texts.antt` what a text denotes, and `specs/Machine.antt` the machine that the parser follows.
+//! `specs/Texts.antt` says what a text denotes: a module, or its first flaw. The other definitions are bb_parse's: `specs/Grammar.antt`
+//! has the productions, `specs/Meaning.antt` what module a tree stands for, and `specs/Machine.antt` the machine that the parser follows.
 #![tactic(auto)]
 
 mod laws;

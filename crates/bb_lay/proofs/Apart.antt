@@ -12,12 +12,12 @@ use Rattle.bb_base.specs.Variables.{Entry, IsEntry, is_port, bit_count, ports_of
 use Rattle.bb_base.proofs.Contained.{by_place, at_place}
 use Rattle.bb_base.proofs.Distinct.{Distinct}
 use Rattle.bb_base.proofs.Lists.{all_front, all_back, all_join, get_front, get_back}
-use Rattle.bb_net.specs.Named.{Named, IsNamed}
-use Rattle.bb_net.specs.Building.{net_limit}
-use Rattle.bb_runs.proofs.Sorting.{Ascends, pairs_ascend, ascend_pairs}
-use Rattle.bb_ctl.specs.declared.wire.Wire.{Wire}
-use Rattle.bb_ctl.specs.declared.wire.Wire.TheVariants.{Kept, Test, Init, So, Done, NotInit, NotTest, Go, NotGo, Parity, Low, Feed, Word, WordNext, Wrap, Phase, PhaseTurned, PhaseNext, Advance, NotAdvance, Ring, RingKept, RingMoved, RingOr, RingNext, NotOver, Live, NotPhase, Running, Shifting, On, Compacts, Latches, Takes, Off, Codes, Feedback, Signed, Carried, First, Line, Chain, Code, Coded, Next, InTest, InNormal, Read, Held}
-use Rattle.bb_ctl.specs.Wires.{symbol_name, IsAdded}
+use Rattle.bb_base.specs.Named.{Named, IsNamed}
+use Rattle.bb_base.specs.Building.{net_limit}
+use Rattle.bb_netlist.proofs.Sorting.{Ascends, pairs_ascend, ascend_pairs}
+use Rattle.bb_terms.specs.declared.wire.Wire.{Wire}
+use Rattle.bb_terms.specs.declared.wire.Wire.TheVariants.{Kept, Test, Init, So, Done, NotInit, NotTest, Go, NotGo, Parity, Low, Feed, Word, WordNext, Wrap, Phase, PhaseTurned, PhaseNext, Advance, NotAdvance, Ring, RingKept, RingMoved, RingOr, RingNext, NotOver, Live, NotPhase, Running, Shifting, On, Compacts, Latches, Takes, Off, Codes, Feedback, Signed, Carried, First, Line, Chain, Code, Coded, Next, InTest, InNormal, Read, Held}
+use Rattle.bb_terms.specs.Wires.{symbol_name, IsAdded}
 use Rattle.bb_ctl.proofs.Names.{names_differ, added_reserved, never_made}
 use Rattle.bb_lay.proofs.NameLemmas.{name_is, clock_is_name}
 use Rattle.bb_written.specs.Written.{is_inner, scalar_entry, added_clock, added_ports, inner_entry}

@@ -6,7 +6,7 @@ use Rattle.std.specs.Option.{ForSome}
 use Rattle.bb_base.specs.declared.variable.BitName.{BitName}
 use Rattle.bb_base.specs.Variables.{bit_at, places_but, StandsBefore}
 use Rattle.bb_base.proofs.Lists.{all_join}
-use Rattle.bb_runs.proofs.Sorting.{Ascends}
+use Rattle.bb_netlist.proofs.Sorting.{Ascends}
 use Rattle.bb_written.proofs.Sizes.{filter_short}
 
 pub ascends_join : {X : Type 0} (R : X → X → Type 0) (xs ys : List X) → Ascends R xs → Ascends R ys → AllByRecursion (λ x. AllByRecursion (R x) ys) xs → Ascends R (xs ++ ys)

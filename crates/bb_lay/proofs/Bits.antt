@@ -5,8 +5,8 @@ use Rattle.std.proofs.lemmas.List.Elements.{filter-append, All-weaker}
 use Rattle.std.specs.List.{list_any, range_with_len}
 use Rattle.bb_base.specs.declared.variable.BitName.{BitName}
 use Rattle.bb_base.specs.Variables.{bit_at, bit_eq}
-use Rattle.bb_net.specs.Named.{Named}
-use Rattle.bb_net.specs.Building.{with_net, IsEarlier}
+use Rattle.bb_base.specs.Named.{Named}
+use Rattle.bb_base.specs.Building.{with_net, IsEarlier}
 use Rattle.bb_base.proofs.Lists.{map_join, length_map}
 use Rattle.bb_base.proofs.Contained.{here, there, either, none_in, contains_at}
 use Rattle.bb_written.proofs.Sizes.{filter_short}

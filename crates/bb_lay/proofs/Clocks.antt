@@ -10,8 +10,8 @@ use Rattle.bb_base.specs.declared.variable.Role.TheVariants.{Input, Output, Wire
 use Rattle.bb_base.specs.declared.variable.BitName.{BitName}
 use Rattle.bb_base.specs.declared.variable.Variable.{Variable}
 use Rattle.bb_base.specs.Variables.{Entry, is_input, is_port, clock_place, range_width, ports_of}
-use Rattle.bb_net.specs.Named.{Named, IsConsistent}
-use Rattle.bb_net.specs.Building.{MayClock, clock_with}
+use Rattle.bb_base.specs.Named.{Named, IsConsistent}
+use Rattle.bb_base.specs.Building.{MayClock, clock_with}
 
 -- a port has only ports before it
 abbrev pub PortsFirst : List Entry → Type 0

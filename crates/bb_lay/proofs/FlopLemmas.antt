@@ -1,13 +1,13 @@
 -- Flip-flops, and the wires of rows, one after another.
 use Rattle.std.proofs.Common.{arith, ◌≡◌, ℕ, ◌+◌, ◌-◌, ◌<◌, suc, List, [], ◌∷◌, ◌++◌, map, filter, take, drop, cond, Bool, true, false, Some, slice_get, sym, ap, ◌∙◌, append_assoc}
 use Rattle.bb_base.proofs.Lists.{map_join}
-use Rattle.bb_netlist.specs.Net.{Flop, renamed_flop}
-use Rattle.bb_net.specs.Named.{Named}
-use Rattle.bb_net.specs.Building.{with_flop, with_flops}
-use Rattle.bb_rules.specs.declared.plan.Cell.{Cell}
-use Rattle.bb_ctl.specs.declared.wire.Wire.{Wire}
-use Rattle.bb_ctl.specs.declared.wire.Wire.TheVariants.{Word, WordNext, Ring, RingNext, Next}
-use Rattle.bb_ctl.specs.Reads.{q_of}
+use Rattle.bb_base.specs.Net.{Flop, renamed_flop}
+use Rattle.bb_base.specs.Named.{Named}
+use Rattle.bb_base.specs.Building.{with_flop, with_flops}
+use Rattle.bb_terms.specs.declared.plan.Cell.{Cell}
+use Rattle.bb_terms.specs.declared.wire.Wire.{Wire}
+use Rattle.bb_terms.specs.declared.wire.Wire.TheVariants.{Word, WordNext, Ring, RingNext, Next}
+use Rattle.bb_terms.specs.Reads.{q_of}
 use Rattle.bb_written.specs.Cells.{flop, word_flops, ring_flops, cell_flops}
 use Rattle.bb_lay.proofs.Clocks.{drop_pop, take_push}
 

@@ -10,7 +10,7 @@ use Rattle.bb_base.specs.declared.variable.BitName.{BitName}
 use Rattle.bb_base.specs.Variables.{Entry, IsBit, bit_at, bit_eq, is_port, range_width, places_but, clock_place, data_bits, role_bits, ports_of}
 use Rattle.bb_base.proofs.Contained.{here, there, either, none_in, contains_map, to_all, of_all}
 use Rattle.bb_base.proofs.Lists.{get_front, get_back}
-use Rattle.bb_net.specs.Named.{Named, IsConsistent}
+use Rattle.bb_base.specs.Named.{Named, IsConsistent}
 use Rattle.bb_lay.specs.Laying.{IsLaid, net_bits, all_net_bits, new_number}
 use Rattle.bb_lay.proofs.Bits.{stands_any}
 use Rattle.bb_lay.proofs.Clocks.{port_at, front_long, ports_within}

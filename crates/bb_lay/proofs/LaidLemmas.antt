@@ -2,10 +2,10 @@
 use Rattle.std.proofs.Common.{arith, ◌≡◌, ℕ, ◌+◌, ◌≤◌, List, [], ◌++◌, map, length, take, drop, sym, ap, subst, ◌∙◌, append_assoc, length-append, take-append-drop}
 use Rattle.bb_base.specs.declared.variable.BitName.{BitName}
 use Rattle.bb_base.specs.Variables.{Entry, is_port, bit_count, ports_of, role_bits}
-use Rattle.bb_net.specs.Named.{Named}
-use Rattle.bb_net.specs.Building.{started, net_limit}
+use Rattle.bb_base.specs.Named.{Named}
+use Rattle.bb_base.specs.Building.{started, net_limit}
 use Rattle.bb_net.proofs.CountLemmas.{variables_few}
-use Rattle.bb_ctl.specs.declared.wire.Wire.{Wire}
+use Rattle.bb_terms.specs.declared.wire.Wire.{Wire}
 use Rattle.bb_written.specs.Written.{added_clock, added_ports, inner_entry}
 use Rattle.bb_lay.specs.Laying.{AddsAll, CanStand, IsLaid, scalar_bits, all_net_bits, clock_or, wires_from, laid_variables, laid_bits}
 use Rattle.bb_lay.proofs.Adding.{adds_twice}

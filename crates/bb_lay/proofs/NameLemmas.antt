@@ -6,9 +6,9 @@ use Rattle.std.proofs.lemmas.Fmt.{length-decimal-le, decimal_nonempty}
 use Rattle.std.specs.List.{AllByRecursion, list_all}
 use Rattle.bb_base.specs.Name.{IsName, IsNameByte, is_name_byte}
 use Rattle.bb_base.proofs.OwnNameLemmas.{decimal_plain}
-use Rattle.bb_ctl.specs.declared.wire.Wire.{Wire}
-use Rattle.bb_ctl.specs.declared.wire.Wire.TheVariants.{Kept, Test, Init, So, Done, NotInit, NotTest, Go, NotGo, Parity, Low, Feed, Word, WordNext, Wrap, Phase, PhaseTurned, PhaseNext, Advance, NotAdvance, Ring, RingKept, RingMoved, RingOr, RingNext, NotOver, Live, NotPhase, Running, Shifting, On, Compacts, Latches, Takes, Off, Codes, Feedback, Signed, Carried, First, Line, Chain, Code, Coded, Next, InTest, InNormal, Read, Held}
-use Rattle.bb_ctl.specs.Wires.{wire_label, with_number, symbol_name, IsAdded}
+use Rattle.bb_terms.specs.declared.wire.Wire.{Wire}
+use Rattle.bb_terms.specs.declared.wire.Wire.TheVariants.{Kept, Test, Init, So, Done, NotInit, NotTest, Go, NotGo, Parity, Low, Feed, Word, WordNext, Wrap, Phase, PhaseTurned, PhaseNext, Advance, NotAdvance, Ring, RingKept, RingMoved, RingOr, RingNext, NotOver, Live, NotPhase, Running, Shifting, On, Compacts, Latches, Takes, Off, Codes, Feedback, Signed, Carried, First, Line, Chain, Code, Coded, Next, InTest, InNormal, Read, Held}
+use Rattle.bb_terms.specs.Wires.{wire_label, with_number, symbol_name, IsAdded}
 
 pub numbered_name : (front text : List ℕ) (n : ℕ) → n < 2 ^ 32 → length front ≤ 8 → All IsNameByte front → text ≡ front ++ decimal n → IsName text
 numbered_name front text n small short plain e =

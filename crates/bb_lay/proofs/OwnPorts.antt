@@ -8,8 +8,8 @@ use Rattle.std.specs.Option.{ForSome}
 use Rattle.bb_base.specs.declared.variable.BitName.{BitName}
 use Rattle.bb_base.specs.declared.variable.Variable.{Variable}
 use Rattle.bb_base.specs.Variables.{Entry, bit_at, is_port, range_width, places_but, clock_place, role_bits, ports_of}
-use Rattle.bb_net.specs.Named.{Named, IsConsistent}
-use Rattle.bb_net.specs.Building.{started, with_variable, port_bits, clock_with, MayClock}
+use Rattle.bb_base.specs.Named.{Named, IsConsistent}
+use Rattle.bb_base.specs.Building.{started, with_variable, port_bits, clock_with, MayClock}
 use Rattle.bb_lay.specs.Laying.{AddsAll, CanStand, IsLaid}
 use Rattle.bb_lay.proofs.Ascending.{ArePlaces, left_places, place_left}
 use Rattle.bb_lay.proofs.Standing.{laid_step, MayBeClock}

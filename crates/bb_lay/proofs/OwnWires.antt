@@ -5,8 +5,8 @@ use Rattle.std.specs.Option.{ForSome}
 use Rattle.bb_base.specs.declared.variable.BitName.{BitName}
 use Rattle.bb_base.specs.declared.variable.Variable.{Variable}
 use Rattle.bb_base.specs.Variables.{Entry, IsBit, bit_at, bit_eq, is_port, range_width, places_but}
-use Rattle.bb_net.specs.Named.{Named}
-use Rattle.bb_net.specs.Building.{with_variable, net_limit}
+use Rattle.bb_base.specs.Named.{Named}
+use Rattle.bb_base.specs.Building.{with_variable, net_limit}
 use Rattle.bb_net.proofs.VariableLemmas.{at_end}
 use Rattle.bb_lay.specs.Laying.{AddsAll, CanStand, IsLaid, with_bits, net_bits, all_net_bits}
 use Rattle.bb_lay.proofs.Ascending.{filtered_places}

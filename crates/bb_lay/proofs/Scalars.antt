@@ -7,8 +7,8 @@ use Rattle.bb_base.specs.declared.variable.Role.{Role}
 use Rattle.bb_base.specs.declared.variable.Role.TheVariants.{Input}
 use Rattle.bb_base.specs.declared.variable.Variable.{Variable}
 use Rattle.bb_base.specs.Variables.{Entry, bit_at, is_port}
-use Rattle.bb_net.specs.Named.{Named}
-use Rattle.bb_net.specs.Building.{with_variable}
+use Rattle.bb_base.specs.Named.{Named}
+use Rattle.bb_base.specs.Building.{with_variable}
 use Rattle.bb_lay.specs.Laying.{AddsAll, CanStand, IsLaid, scalar_bits}
 use Rattle.bb_lay.proofs.Ascending.{all_places}
 use Rattle.bb_lay.proofs.Standing.{laid_step}

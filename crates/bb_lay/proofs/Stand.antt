@@ -1,12 +1,12 @@
 -- The variables of a valid plan's written netlist can stand together.
 use Rattle.std.proofs.Common.{arith, ◌≡◌, ◌≤◌, List, ◌++◌, map, take, drop, sym, ap, subst, ◌∙◌}
 use Rattle.bb_base.specs.Variables.{bit_count, ports_of}
-use Rattle.bb_net.specs.Named.{Named, IsNamed}
-use Rattle.bb_net.specs.Building.{started}
-use Rattle.bb_rules.specs.Plan.{PlanValue}
-use Rattle.bb_rules.specs.Valid.{IsValidPlan}
+use Rattle.bb_base.specs.Named.{Named, IsNamed}
+use Rattle.bb_base.specs.Building.{started}
+use Rattle.bb_terms.specs.Plan.{PlanValue}
+use Rattle.bb_terms.specs.Valid.{IsValidPlan}
 use Rattle.bb_written.specs.Written.{added_clock, added_ports, inner_entry, inner_wires, written_variables}
-use Rattle.bb_ctl.specs.declared.wire.Wire.{Wire}
+use Rattle.bb_terms.specs.declared.wire.Wire.{Wire}
 use Rattle.bb_ctl.specs.OwnNames.{HasOwnNames}
 use Rattle.bb_lay.specs.Laying.{AddsAll, CanStand, laid_variables, laid_bits, clock_or}
 use Rattle.bb_written.proofs.Inner.{inner_are, inner_distinct, inner_few}

@@ -10,13 +10,13 @@ use Rattle.std.proofs.lemmas.Slice.Eq.{bytes_eq-Decides}
 use Rattle.bb_base.specs.declared.variable.BitName.{BitName}
 use Rattle.bb_base.specs.declared.variable.Variable.{Variable}
 use Rattle.bb_base.specs.Variables.{Entry, IsEntry, is_port, range_width, bit_at, bit_count, places_but, StandsBefore}
-use Rattle.bb_net.specs.Named.{Named, lookup_of}
-use Rattle.bb_net.specs.Building.{port_bits}
+use Rattle.bb_base.specs.Named.{Named, lookup_of}
+use Rattle.bb_base.specs.Building.{port_bits}
 use Rattle.bb_base.proofs.Lists.{get_front, all_join, in_front, length_map}
 use Rattle.bb_base.proofs.Contained.{by_place}
 use Rattle.bb_net.proofs.VariableLemmas.{all_at, at_end}
 use Rattle.bb_net.proofs.CountLemmas.{variables_few}
-use Rattle.bb_runs.proofs.Sorting.{Ascends, pairs_ascend, ascend_pairs}
+use Rattle.bb_netlist.proofs.Sorting.{Ascends, pairs_ascend, ascend_pairs}
 use Rattle.bb_lay.specs.Laying.{AddsAll, CanStand, IsLaid}
 use Rattle.bb_lay.proofs.Ascending.{ascends_join, weaker, ArePlaces, left_places, place_bits, bits_of_variable}
 

@@ -7,20 +7,20 @@ use Rattle.std.proofs.Math.ListN.{set, length-set}
 use Rattle.std.specs.List.{AllByRecursion, flat_map}
 use Rattle.bb_base.proofs.Contained.{by_place, at_place}
 use Rattle.bb_base.proofs.Lists.{all_front, all_back, all_parts, same_map_at}
-use Rattle.bb_netlist.specs.Net.{Flop, Gate, Netlist, IsNetlist, driven}
-use Rattle.bb_rules.specs.declared.plan.Cell.{Cell}
-use Rattle.bb_rules.specs.declared.kind.Kind.{Kind}
-use Rattle.bb_rules.specs.declared.kind.Kind.TheVariants.{Input, State, Split, Cut, Watch, Output}
-use Rattle.bb_rules.specs.Kinds.{is_behind}
-use Rattle.bb_rules.specs.Lines.{d_of}
-use Rattle.bb_rules.specs.Plan.{PlanValue, RegisterValue}
-use Rattle.bb_ctl.specs.declared.wire.Wire.{Wire}
-use Rattle.bb_ctl.specs.declared.wire.Wire.TheVariants.{Kept, Test, First, Read}
-use Rattle.bb_ctl.specs.Reads.{q_of, read, read_behind, line_by}
-use Rattle.bb_ctl.specs.Controller.{word_ahead}
+use Rattle.bb_base.specs.Net.{Flop, Gate, Netlist, IsNetlist, driven}
+use Rattle.bb_terms.specs.declared.plan.Cell.{Cell}
+use Rattle.bb_terms.specs.declared.kind.Kind.{Kind}
+use Rattle.bb_terms.specs.declared.kind.Kind.TheVariants.{Input, State, Split, Cut, Watch, Output}
+use Rattle.bb_terms.specs.Kinds.{is_behind}
+use Rattle.bb_terms.specs.Lines.{d_of}
+use Rattle.bb_terms.specs.Plan.{PlanValue, RegisterValue}
+use Rattle.bb_terms.specs.declared.wire.Wire.{Wire}
+use Rattle.bb_terms.specs.declared.wire.Wire.TheVariants.{Kept, Test, First, Read}
+use Rattle.bb_terms.specs.Reads.{q_of, read, read_behind, line_by}
+use Rattle.bb_terms.specs.Controller.{word_ahead}
 use Rattle.bb_written.specs.Cells.{rows_of_cells, all_cells_from}
 use Rattle.bb_net.proofs.Renaming.{OfAllNets, nets_below}
-use Rattle.bb_ctl.specs.Controller.{gate_row}
+use Rattle.bb_terms.specs.Controller.{gate_row}
 use Rattle.bb_written.specs.Written.{written_gate}
 use Rattle.bb_lay.specs.Tables.{read_past, d_over, AreTables, line_in, rows_of_cell, rows_in, all_rows_in, read_in_table, row_behind}
 use Rattle.bb_lay.proofs.Ascending.{weaker}

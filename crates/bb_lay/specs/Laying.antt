@@ -4,11 +4,11 @@ use Rattle.std.specs.List.{list_any, range_with_len}
 use Rattle.std.specs.Option.{ForSome}
 use Rattle.bb_base.specs.declared.variable.BitName.{BitName}
 use Rattle.bb_base.specs.Variables.{Entry, IsEntry, is_port, range_width, bit_at, bit_eq, bit_count, ports_of, role_bits, StandsBefore}
-use Rattle.bb_net.specs.Named.{Named, name_of_net}
-use Rattle.bb_net.specs.Building.{net_limit}
-use Rattle.bb_netlist.specs.Net.{Flop}
-use Rattle.bb_ctl.specs.Numbering.{HasWire}
-use Rattle.bb_ctl.specs.declared.wire.Wire.{Wire}
+use Rattle.bb_base.specs.Named.{Named, name_of_net}
+use Rattle.bb_base.specs.Building.{net_limit}
+use Rattle.bb_base.specs.Net.{Flop}
+use Rattle.bb_terms.specs.Numbering.{HasWire}
+use Rattle.bb_terms.specs.declared.wire.Wire.{Wire}
 use Rattle.bb_written.specs.Written.{added_clock, added_ports, inner_entry}
 
 -- these variables, and these bits as nets, were added behind those before, and this is the clock

@@ -1,8 +1,8 @@
 -- The rows of the written netlist, in their parts.
 use Rattle.std.specs.Prelude.{◌≡◌, ℕ, map}
-use Rattle.bb_netlist.specs.Net.{Netlist}
-use Rattle.bb_rules.specs.Plan.{PlanValue}
-use Rattle.bb_ctl.specs.Registers.{control_rows}
+use Rattle.bb_base.specs.Net.{Netlist}
+use Rattle.bb_terms.specs.Plan.{PlanValue}
+use Rattle.bb_terms.specs.Registers.{control_rows}
 use Rattle.bb_written.specs.Cells.{all_cells_from, flops}
 use Rattle.bb_written.specs.Written.{written_gate}
 use Rattle.bb_lay.specs.declared.rows.Rows.{Rows}

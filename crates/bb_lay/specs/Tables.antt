@@ -1,18 +1,18 @@
 -- The rows of the cells by tables: what is read of each net, and the d of each flip-flop. No public contract cites this.
 use Rattle.std.specs.Prelude.{◌≡◌, ℕ, ◌+◌, ◌<◌, ◌==◌, ◌&&◌, suc, List, [], ◌∷◌, ◌++◌, length, map, if◌then◌else◌, Some, slice_get, slice_index, slice_index_or}
 use Rattle.bb_base.specs.declared.operator.Op.TheVariants.{And, Or, Xor}
-use Rattle.bb_netlist.specs.Net.{Gate, Flop, Netlist, driven}
-use Rattle.bb_gf2.specs.Bits.{picked}
-use Rattle.bb_rules.specs.declared.plan.Cell.{Cell}
-use Rattle.bb_rules.specs.declared.kind.Kind.{Kind}
-use Rattle.bb_rules.specs.declared.kind.Kind.TheVariants.{Input, State, Split, Cut, Watch, Output}
-use Rattle.bb_rules.specs.Kinds.{is_source, has_line, is_behind}
-use Rattle.bb_rules.specs.Lines.{d_of}
-use Rattle.bb_rules.specs.Plan.{RegisterValue, PlanValue}
-use Rattle.bb_ctl.specs.declared.wire.Wire.{Wire}
-use Rattle.bb_ctl.specs.declared.wire.Wire.TheVariants.{Kept, Test, NotTest, Latches, Takes, Codes, First, Line, Chain, Code, Coded, Next, InTest, InNormal, Read, Held}
-use Rattle.bb_ctl.specs.Controller.{gate_row}
-use Rattle.bb_ctl.specs.Reads.{q_of, read}
+use Rattle.bb_base.specs.Net.{Gate, Flop, Netlist, driven}
+use Rattle.bb_base.specs.Bits.{picked}
+use Rattle.bb_terms.specs.declared.plan.Cell.{Cell}
+use Rattle.bb_terms.specs.declared.kind.Kind.{Kind}
+use Rattle.bb_terms.specs.declared.kind.Kind.TheVariants.{Input, State, Split, Cut, Watch, Output}
+use Rattle.bb_terms.specs.Kinds.{is_source, has_line, is_behind}
+use Rattle.bb_terms.specs.Lines.{d_of}
+use Rattle.bb_terms.specs.Plan.{RegisterValue, PlanValue}
+use Rattle.bb_terms.specs.declared.wire.Wire.{Wire}
+use Rattle.bb_terms.specs.declared.wire.Wire.TheVariants.{Kept, Test, NotTest, Latches, Takes, Codes, First, Line, Chain, Code, Coded, Next, InTest, InNormal, Read, Held}
+use Rattle.bb_terms.specs.Controller.{gate_row}
+use Rattle.bb_terms.specs.Reads.{q_of, read}
 use Rattle.bb_written.specs.Cells.{when, xor_row, next_terms}
 
 -- what is read of a net of which this was read, once these cells stand behind their nets, of which the first has number i

@@ -3,14 +3,14 @@
 ghost use Rattle.std.specs.Prelude.{◌≡◌, ◌≤◌, true, ◌++◌, ◌∷◌, [], All, IfOk, OnOk, length, map, decimal};
 ghost use Rattle.bb_base.specs.Name.{IsNameByte};
 ghost use Rattle.bb_base.specs.Variables.{is_port};
-ghost use Rattle.bb_ctl.specs.Wires.{symbol_name, IsAdded};
+ghost use Rattle.bb_terms.specs.Wires.{symbol_name, IsAdded};
 ghost use Rattle.bb_written.specs.Written.{scalar_entry, inner_entry, added_clock, added_ports};
 ghost use Rattle.bb_lay.specs.Laying.{AddsAll, CanStand, IsLaid, scalar_bits, clock_or};
 
 use crate::declare::{add_bit, declare};
 use bb_base::{Name, Role, Variable};
-use bb_ctl::Wire;
 use bb_net::{Builder, Named};
+use bb_terms::Wire;
 use std::alloc::{AllocError, Global};
 
 /// A name that ends with a number.

@@ -1,23 +1,22 @@
 //! The rows of the cells.
 
 ghost use Rattle.std.specs.Prelude.{◌≡◌, ◌<◌, ◌+◌, ◌^◌, ◌++◌, ◌∷◌, [], IfOk, OnOk, All, length};
-ghost use Rattle.bb_netlist.specs.Net.{driven};
-ghost use Rattle.bb_gf2.specs.Bits.{picked};
-ghost use Rattle.bb_creg.specs.OnBits.{shifted};
-ghost use Rattle.bb_rules.specs.Kinds.{is_source, has_line, is_behind};
-ghost use Rattle.bb_rules.specs.Plan.{chain};
-ghost use Rattle.bb_ctl.specs.Controller.{gate_row, word_from};
+ghost use Rattle.bb_base.specs.Net.{driven};
+ghost use Rattle.bb_base.specs.Bits.{picked};
+ghost use Rattle.bb_terms.specs.OnBits.{shifted};
+ghost use Rattle.bb_terms.specs.Kinds.{is_source, has_line, is_behind};
+ghost use Rattle.bb_terms.specs.Plan.{chain};
+ghost use Rattle.bb_terms.specs.Controller.{gate_row, word_from};
 ghost use Rattle.bb_ctl.specs.Numbers.{HasNumbers};
-ghost use Rattle.bb_ctl.specs.Reads.{q_of};
+ghost use Rattle.bb_terms.specs.Reads.{q_of};
 ghost use Rattle.bb_written.specs.Cells.{when, xor_row, next_terms, all_cells_from};
 ghost use Rattle.bb_lay.specs.Tables.{rows_of_cell, rows_in, all_rows_in, AreTables, IsOn};
 
 use crate::reads::{Tables, line_of};
 use crate::row::{picked, push_row, push_xor};
-use bb_base::Op;
-use bb_ctl::{Row, Wire};
-use bb_netlist::{NetId, Netlist};
-use bb_rules::{Cell, Kind, Plan};
+use bb_base::{NetId, Netlist, Op};
+use bb_ctl::Row;
+use bb_terms::{Cell, Kind, Plan, Wire};
 use std::alloc::{AllocError, Global};
 
 /// The bit of the cell of this number.

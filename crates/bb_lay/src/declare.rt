@@ -3,12 +3,11 @@
 ghost use Rattle.std.specs.Prelude.{◌≡◌, ◌≢◌, ◌<◌, ◌≤◌, ◌+◌, ◌^◌, ◌++◌, ◌∷◌, [], ℕ, All, AllPairs, IfOk, OnOk, Some, None, length, map, slice_get, codes, decimal};
 ghost use Rattle.std.specs.Option.{ForSome};
 ghost use Rattle.bb_base.specs.Variables.{IsBit, bit_at};
-ghost use Rattle.bb_net.specs.Building.{MayClock, with_variable, net_limit, IsEarlier};
+ghost use Rattle.bb_base.specs.Building.{MayClock, with_variable, net_limit, IsEarlier};
 ghost use Rattle.bb_lay.specs.Laying.{CanStand, IsLaid, with_bits};
 
-use bb_base::{Name, Variable};
+use bb_base::{Name, NetFault, Variable};
 use bb_net::Builder;
-use bb_netlist::NetFault;
 use std::alloc::{AllocError, Global};
 
 /// Want of memory, where a builder's fault is that.

@@ -2,17 +2,18 @@
 
 ghost use Rattle.std.specs.Prelude.{◌≡◌, ◌<◌, ◌+◌, ◌-◌, ◌^◌, ◌++◌, IfOk, OnOk, All, length, map};
 ghost use Rattle.std.specs.List.{AllByRecursion};
-ghost use Rattle.bb_netlist.specs.Net.{renamed_flop};
-ghost use Rattle.bb_net.specs.Building.{with_flops};
-ghost use Rattle.bb_ctl.specs.Numbering.{net_at, HasDistinctNets};
+ghost use Rattle.bb_base.specs.Net.{renamed_flop};
+ghost use Rattle.bb_base.specs.Building.{with_flops};
+ghost use Rattle.bb_terms.specs.Numbering.{net_at, HasDistinctNets};
 ghost use Rattle.bb_lay.specs.Tables.{read_in_table, row_behind};
 ghost use Rattle.bb_lay.specs.Laying.{HasBothWires};
 
 use crate::flops::FlopRow;
 use crate::row::push_row;
-use bb_ctl::{Row, Wire, net_of};
+use bb_base::{Gate, NetId};
+use bb_ctl::{Row, net_of};
 use bb_net::Builder;
-use bb_netlist::{Gate, NetId};
+use bb_terms::Wire;
 use std::alloc::{AllocError, Global};
 
 /// What is read of these nets.

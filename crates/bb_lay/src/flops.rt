@@ -1,14 +1,14 @@
 //! The flip-flops of the written netlist, and its added wires.
 
 ghost use Rattle.std.specs.Prelude.{◌≡◌, ◌<◌, ◌+◌, ◌^◌, ◌++◌, IfOk, OnOk, filter, map, length};
-ghost use Rattle.bb_rules.specs.Plan.{chain};
+ghost use Rattle.bb_terms.specs.Plan.{chain};
 ghost use Rattle.bb_ctl.specs.Numbers.{HasNumbers};
 ghost use Rattle.bb_written.specs.Cells.{word_flops, ring_flops, cell_flops, flops};
 ghost use Rattle.bb_written.specs.Written.{is_inner};
 
 use crate::cells::q_of;
-use bb_ctl::{Row, Wire};
-use bb_rules::{Cell, Plan};
+use bb_ctl::Row;
+use bb_terms::{Cell, Plan, Wire};
 use std::alloc::{AllocError, Global};
 use std::marker::Model;
 
@@ -20,8 +20,8 @@ pub struct FlopRow {
 }
 
 impl Model for FlopRow {
-    ghost use Rattle.bb_netlist.specs.Net.{Flop};
-    ghost use Rattle.bb_ctl.specs.declared.wire.Wire.{Wire};
+    ghost use Rattle.bb_base.specs.Net.{Flop};
+    ghost use Rattle.bb_terms.specs.declared.wire.Wire.{Wire};
 
     ghost Value = { Flop Wire };
 

@@ -2,9 +2,9 @@
 
 ghost use Rattle.std.specs.Prelude.{◌≡◌, ◌≤◌, IfOk};
 ghost use Rattle.bb_base.specs.Variables.{bit_count, ports_of};
-ghost use Rattle.bb_net.specs.Named.{IsByBits};
-ghost use Rattle.bb_net.specs.Building.{started};
-ghost use Rattle.bb_rules.specs.Valid.{IsValidFor};
+ghost use Rattle.bb_base.specs.Named.{IsByBits};
+ghost use Rattle.bb_base.specs.Building.{started};
+ghost use Rattle.bb_terms.specs.Valid.{IsValidFor};
 ghost use Rattle.bb_written.specs.Written.{written_variables, inner_wires};
 ghost use Rattle.bb_ctl.specs.OwnNames.{HasOwnNames};
 ghost use Rattle.bb_lay.specs.RowsOf.{AreRows};
@@ -12,9 +12,9 @@ ghost use Rattle.bb_lay.specs.Laying.{AddsAll, IsLaid, AreKept, laid_bits, clock
 
 use crate::rows::{Rows, rows_of, wires_of};
 use crate::variables::lay;
+use bb_base::NetId;
 use bb_net::{Builder, Named};
-use bb_netlist::NetId;
-use bb_rules::Valid;
+use bb_terms::Valid;
 use std::alloc::{AllocError, Global};
 
 /// A builder with all variables and nets of a written netlist, where each net of the original went, and the rows that are left to add.

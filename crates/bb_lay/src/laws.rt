@@ -2,9 +2,9 @@
 
 ghost use Rattle.std.specs.Prelude.{◌≤◌};
 ghost use Rattle.bb_base.specs.Variables.{bit_count};
-ghost use Rattle.bb_net.specs.Named.{Named, IsNamed};
-ghost use Rattle.bb_rules.specs.Plan.{PlanValue};
-ghost use Rattle.bb_rules.specs.Valid.{IsValidPlan};
+ghost use Rattle.bb_base.specs.Named.{Named, IsNamed};
+ghost use Rattle.bb_terms.specs.Plan.{PlanValue};
+ghost use Rattle.bb_terms.specs.Valid.{IsValidPlan};
 ghost use Rattle.bb_written.specs.Written.{written_variables};
 ghost use Rattle.bb_ctl.specs.OwnNames.{HasOwnNames};
 ghost use Rattle.bb_lay.specs.Laying.{CanStand};

@@ -3,14 +3,13 @@
 ghost use Rattle.std.specs.Prelude.{◌≡◌, ◌≢◌, ◌<◌, ◌≤◌, ◌+◌, ◌^◌, ◌++◌, ◌∷◌, [], ℕ, false, All, Contains, IfOk, OnOk, Some, length, take, drop, slice_get, slice_index};
 ghost use Rattle.std.specs.Option.{ForSome};
 ghost use Rattle.bb_base.specs.Variables.{Entry, IsBit, IsRange, clock_place, is_port, ports_of, range_width, bit_at, bit_count, role_bits};
-ghost use Rattle.bb_net.specs.Named.{IsNamed, name_of_net};
-ghost use Rattle.bb_net.specs.Building.{started, net_limit};
+ghost use Rattle.bb_base.specs.Named.{IsNamed, name_of_net};
+ghost use Rattle.bb_base.specs.Building.{started, net_limit};
 ghost use Rattle.bb_lay.specs.Laying.{AddsAll, CanStand, IsLaid, with_bits, net_bits, all_net_bits, new_number};
 
 use crate::declare::{add_bit, declare, only_memory};
-use bb_base::{BitName, Name, Variable, width_of};
+use bb_base::{BitName, Name, NetId, Variable, width_of};
 use bb_net::{Builder, Named};
-use bb_netlist::NetId;
 use std::alloc::{AllocError, Global};
 
 /// The place of the clock's bit in a variable, where it has it.

@@ -1,15 +1,14 @@
 //! What is read of each net of the original, and the d of each flip-flop, as tables by net.
 
 ghost use Rattle.std.specs.Prelude.{◌≡◌, ◌<◌, ◌^◌, ◌++◌, ℕ, IfOk, OnOk, Some, All, length, slice_get};
-ghost use Rattle.bb_netlist.specs.Net.{driven};
-ghost use Rattle.bb_rules.specs.Lines.{d_of};
-ghost use Rattle.bb_rules.specs.Plan.{chain};
-ghost use Rattle.bb_ctl.specs.Reads.{read_behind};
+ghost use Rattle.bb_base.specs.Net.{driven};
+ghost use Rattle.bb_terms.specs.Lines.{d_of};
+ghost use Rattle.bb_terms.specs.Plan.{chain};
+ghost use Rattle.bb_terms.specs.Reads.{read_behind};
 ghost use Rattle.bb_lay.specs.Tables.{read_past, d_over, line_in, AreTables, IsOn};
 
-use bb_ctl::Wire;
-use bb_netlist::{Flop, NetId, Netlist};
-use bb_rules::{Cell, Kind, Plan};
+use bb_base::{Flop, NetId, Netlist};
+use bb_terms::{Cell, Kind, Plan, Wire};
 use std::alloc::{AllocError, Global};
 
 /// All cells of the chain.

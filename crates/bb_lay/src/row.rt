@@ -1,12 +1,13 @@
 //! Rows of the table, and the wires that a mask picks.
 
 ghost use Rattle.std.specs.Prelude.{◌≡◌, ◌++◌, ◌∷◌, [], OnOk, IfOk};
-ghost use Rattle.bb_gf2.specs.Bits.{picked};
-ghost use Rattle.bb_ctl.specs.Controller.{gate_row};
+ghost use Rattle.bb_base.specs.Bits.{picked};
+ghost use Rattle.bb_terms.specs.Controller.{gate_row};
 ghost use Rattle.bb_written.specs.Cells.{xor_row};
 
 use bb_base::Op;
-use bb_ctl::{Row, Wire};
+use bb_ctl::Row;
+use bb_terms::Wire;
 use smallvec::SmallVec;
 use std::alloc::{AllocError, Global};
 

@@ -1,8 +1,8 @@
 //! All rows of the written netlist, and its added wires.
 
 ghost use Rattle.std.specs.Prelude.{◌≡◌, ◌^◌, ◌<◌, ℕ, IfOk, All, length};
-ghost use Rattle.bb_netlist.specs.Net.{Netlist as NetlistValue, driven};
-ghost use Rattle.bb_rules.specs.Plan.{PlanValue, chain};
+ghost use Rattle.bb_base.specs.Net.{Netlist as NetlistValue, driven};
+ghost use Rattle.bb_terms.specs.Plan.{PlanValue, chain};
 ghost use Rattle.bb_ctl.specs.Numbers.{HasNumbers};
 ghost use Rattle.bb_written.specs.Written.{inner_wires};
 ghost use Rattle.bb_lay.specs.Tables.{IsOn};
@@ -12,9 +12,9 @@ use crate::cells::cell_rows;
 use crate::fill::kept_rows;
 use crate::flops::{FlopRow, flop_rows, push_outs, push_qs};
 use crate::reads::{chain_of, tables_of};
-use bb_ctl::{Row, Wire, control_rows};
-use bb_netlist::Netlist;
-use bb_rules::Plan;
+use bb_base::Netlist;
+use bb_ctl::{Row, control_rows};
+use bb_terms::{Plan, Wire};
 use std::alloc::{AllocError, Global};
 
 /// The rows of a written netlist: the original's gates behind the cells, the controller with the registers, the cells, and all

@@ -2,17 +2,17 @@
 
 ghost use Rattle.std.specs.Prelude.{◌≡◌, ◌+◌, ◌++◌, All, IfOk, OnOk, length};
 ghost use Rattle.bb_base.specs.Variables.{ports_of};
-ghost use Rattle.bb_net.specs.Building.{started};
-ghost use Rattle.bb_net.specs.Named.{IsNamed};
-ghost use Rattle.bb_ctl.specs.Wires.{IsAdded};
+ghost use Rattle.bb_base.specs.Building.{started};
+ghost use Rattle.bb_base.specs.Named.{IsNamed};
+ghost use Rattle.bb_terms.specs.Wires.{IsAdded};
 ghost use Rattle.bb_written.specs.Written.{added_clock, added_ports};
 ghost use Rattle.bb_lay.specs.Laying.{AddsAll, CanStand, IsLaid, AreKept, laid_variables, laid_bits, clock_or};
 
 use crate::added::{add_clock, add_test_ports, add_wires};
 use crate::lay::{add_own_ports, add_own_wires, kept_nets};
-use bb_ctl::Wire;
+use bb_base::NetId;
 use bb_net::{Builder, Named};
-use bb_netlist::NetId;
+use bb_terms::Wire;
 use std::alloc::{AllocError, Global};
 
 /// How many ports are added.

@@ -5,7 +5,7 @@ use Rattle.bb_base.specs.Name.{IsNameByte}
 use Rattle.bb_lex.specs.declared.bytes.Class.TheVariants as class
 use Rattle.bb_lex.specs.declared.bytes.Base.{Base}
 use Rattle.bb_lex.specs.declared.bytes.Base.TheVariants.{Binary, Octal, Decimal, Hexadecimal}
-use Rattle.bb_lex.specs.declared.token.Mark.{Mark}
+use Rattle.bb_base.specs.declared.token.Mark.{Mark}
 use Rattle.bb_lex.specs.declared.lexer.Fence.{Fence}
 use Rattle.bb_lex.specs.declared.lexer.Fence.TheVariants.{Comment, Attribute}
 use Rattle.bb_base.specs.Name.{is_name_byte}

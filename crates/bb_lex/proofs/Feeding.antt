@@ -1,9 +1,9 @@
 -- Where a run stands after a fault, the tokens that it keeps, and texts in pieces.
 use Rattle.std.proofs.Common.{◌≡◌, ℕ, ◌+◌, ◌<◌, Bool, true, false, cond, List, [], ◌∷◌, ◌++◌, length, get_or, drop, Err, refl, sym, ap, subst, ◌∙◌, append_assoc, append-nil, drop-cons, add-one}
 use Rattle.bb_lex.specs.declared.bytes.Class.{Class}
-use Rattle.bb_lex.specs.declared.fault.LexFault.{LexFault}
-use Rattle.bb_lex.specs.declared.fault.LexFault.TheVariants as faults
-use Rattle.bb_lex.specs.declared.token.Token.{Token}
+use Rattle.bb_base.specs.declared.lex_fault.LexFault.{LexFault}
+use Rattle.bb_base.specs.declared.lex_fault.LexFault.TheVariants as faults
+use Rattle.bb_base.specs.declared.token.Token.{Token}
 use Rattle.bb_lex.specs.Bytes.{class_of}
 use Rattle.bb_lex.specs.Machine.{Mode, Failed, Machine, at, Action, Goes, Gives, Ending, Ends, Spells, Breaks, ending, going, begun_by, act, close_as, goes_on, more, begin, begin_by, step, run, close, told, IsKept, Stands, after_tokens}
 

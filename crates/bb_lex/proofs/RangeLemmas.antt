@@ -9,18 +9,19 @@ use Rattle.bb_lex.specs.declared.bytes.Class.TheVariants as class
 use Rattle.bb_lex.specs.declared.bytes.Base.{Base}
 use Rattle.bb_lex.specs.declared.lexer.Fence.TheVariants.{Comment}
 use Rattle.bb_lex.specs.declared.lexer.Place.TheVariants.{Outside}
-use Rattle.bb_lex.specs.declared.fault.LexFault.{LexFault}
-use Rattle.bb_lex.specs.declared.fault.LexFault.TheVariants as faults
+use Rattle.bb_base.specs.declared.lex_fault.LexFault.{LexFault}
+use Rattle.bb_base.specs.declared.lex_fault.LexFault.TheVariants as faults
 use Rattle.bb_base.specs.declared.keyword.Keyword.{Keyword}
-use Rattle.bb_lex.specs.declared.token.TokenKind.{TokenKind}
-use Rattle.bb_lex.specs.declared.token.TokenKind.TheVariants as kinds
-use Rattle.bb_lex.specs.declared.token.Token.{Token}
+use Rattle.bb_base.specs.declared.token.TokenKind.{TokenKind}
+use Rattle.bb_base.specs.declared.token.TokenKind.TheVariants as kinds
+use Rattle.bb_base.specs.declared.token.Token.{Token}
 use Rattle.bb_lex.specs.Bytes.{between, class_of, is_odd, base_of, radix_of, is_digit_or_low, with_digit, line_after}
 use Rattle.bb_base.specs.Keywords.{keyword_of}
 use Rattle.bb_lex.specs.Keywords.{kind_by, word_kind}
 use Rattle.bb_lex.specs.Fences.{closer, place_after, shown}
 use Rattle.bb_lex.specs.Machine.{Mode, Between, InName, InNumber, AtQuote, AtBase, InConstant, AtTilde, AtCaret, AtParen, AtSlash, AtTick, InLine, InFence, AtBackslash, InEscaped, Failed, Machine, one, number_limit, constant_limit, grown, goes_on, Action, Goes, Gives, quoted, based, going, Ending, Ends, Spells, Breaks, checked, is_short, ending, begun_by, act, close_as, close, begin, begin_by, more, step, run, start}
-use Rattle.bb_lex.specs.Ranges.{IsSize, IsProperKind, IsProper, IsSoundMode, IsSound}
+use Rattle.bb_base.specs.Tokens.{IsSize, IsProperKind, IsProper}
+use Rattle.bb_lex.specs.Ranges.{IsSoundMode, IsSound}
 use Rattle.bb_base.proofs.Lists.{all_join}
 use Rattle.bb_lex.proofs.ByteLemmas.{letter_plain, word_plain, graphic_plain, either as or_left}
 

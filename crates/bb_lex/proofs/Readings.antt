@@ -9,8 +9,8 @@ use Rattle.bb_lex.specs.declared.lexer.Fence.{Fence}
 use Rattle.bb_lex.specs.declared.lexer.Fence.TheVariants.{Comment, Attribute}
 use Rattle.bb_lex.specs.declared.lexer.Place.{Place}
 use Rattle.bb_lex.specs.declared.lexer.Place.TheVariants.{Outside, InString, Slashed}
-use Rattle.bb_lex.specs.declared.fault.LexFault.{LexFault}
-use Rattle.bb_lex.specs.declared.token.Token.{Token}
+use Rattle.bb_base.specs.declared.lex_fault.LexFault.{LexFault}
+use Rattle.bb_base.specs.declared.token.Token.{Token}
 use Rattle.bb_base.specs.Name.{is_name_byte}
 use Rattle.bb_base.specs.Words.{is_word_byte}
 use Rattle.bb_lex.specs.Bytes.{between, class_of, is_number, is_constant, is_odd, is_sign, base_of, is_digit, is_digit_or_low, AllOf, begins, feeds}

@@ -10,9 +10,9 @@ use Rattle.bb_lex.specs.declared.lexer.Fence.{Fence}
 use Rattle.bb_lex.specs.declared.lexer.Fence.TheVariants.{Comment, Attribute}
 use Rattle.bb_lex.specs.declared.lexer.Place.{Place}
 use Rattle.bb_lex.specs.declared.lexer.Place.TheVariants.{Outside, InString, Slashed}
-use Rattle.bb_lex.specs.declared.fault.LexFault.{LexFault}
-use Rattle.bb_lex.specs.declared.fault.LexFault.TheVariants as faults
-use Rattle.bb_lex.specs.declared.token.Token.{Token}
+use Rattle.bb_base.specs.declared.lex_fault.LexFault.{LexFault}
+use Rattle.bb_base.specs.declared.lex_fault.LexFault.TheVariants as faults
+use Rattle.bb_base.specs.declared.token.Token.{Token}
 use Rattle.bb_base.specs.Name.{is_name_byte}
 use Rattle.bb_base.specs.Words.{is_word_byte}
 use Rattle.bb_lex.specs.Bytes.{between, class_of, is_number, is_odd, is_sign, base_of, is_base, radix_of, digit_of, is_digit_or_low, with_digit, value, AllOf, begins, feed, feeds, line_after}

@@ -7,12 +7,12 @@ use Rattle.bb_lex.specs.declared.bytes.Class.TheVariants as class
 use Rattle.bb_lex.specs.declared.lexer.Fence.{Fence}
 use Rattle.bb_lex.specs.declared.lexer.Fence.TheVariants.{Comment, Attribute}
 use Rattle.bb_lex.specs.declared.lexer.Place.TheVariants.{Outside}
-use Rattle.bb_lex.specs.declared.fault.LexFault.{LexFault}
-use Rattle.bb_lex.specs.declared.fault.LexFault.TheVariants as faults
-use Rattle.bb_lex.specs.declared.token.Mark.TheVariants as marks
-use Rattle.bb_lex.specs.declared.token.TokenKind.{TokenKind}
-use Rattle.bb_lex.specs.declared.token.TokenKind.TheVariants as kinds
-use Rattle.bb_lex.specs.declared.token.Token.{Token}
+use Rattle.bb_base.specs.declared.lex_fault.LexFault.{LexFault}
+use Rattle.bb_base.specs.declared.lex_fault.LexFault.TheVariants as faults
+use Rattle.bb_base.specs.declared.token.Mark.TheVariants as marks
+use Rattle.bb_base.specs.declared.token.TokenKind.{TokenKind}
+use Rattle.bb_base.specs.declared.token.TokenKind.TheVariants as kinds
+use Rattle.bb_base.specs.declared.token.Token.{Token}
 use Rattle.bb_base.specs.Name.{is_name_byte}
 use Rattle.bb_base.specs.Words.{is_word_byte}
 use Rattle.bb_lex.specs.Bytes.{between, class_of, is_number, is_sign, is_base, radix_of, is_digit_or_low, with_digit, AllOf, begins, feed, feeds}

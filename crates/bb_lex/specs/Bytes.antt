@@ -8,7 +8,7 @@ use Rattle.bb_lex.specs.declared.bytes.Class.{Class}
 use Rattle.bb_lex.specs.declared.bytes.Class.TheVariants.{Letter, Digit, Blank, Slash, Backslash, Tick, Paren, Tilde, Caret, Single, Odd}
 use Rattle.bb_lex.specs.declared.bytes.Base.{Base}
 use Rattle.bb_lex.specs.declared.bytes.Base.TheVariants.{Binary, Octal, Decimal, Hexadecimal}
-use Rattle.bb_lex.specs.declared.token.Mark.TheVariants as marks
+use Rattle.bb_base.specs.declared.token.Mark.TheVariants as marks
 
 -- a number from low to high
 abbrev pub between : ℕ → ℕ → ℕ → Bool

@@ -2,8 +2,8 @@
 use Rattle.std.specs.Prelude.{ℕ, List, Option, Some, None}
 use Rattle.bb_base.specs.Keywords.{keyword_of}
 use Rattle.bb_base.specs.declared.keyword.Keyword.{Keyword}
-use Rattle.bb_lex.specs.declared.token.TokenKind.{TokenKind}
-use Rattle.bb_lex.specs.declared.token.TokenKind.TheVariants.{Key, Name}
+use Rattle.bb_base.specs.declared.token.TokenKind.{TokenKind}
+use Rattle.bb_base.specs.declared.token.TokenKind.TheVariants.{Key, Name}
 
 -- the kind of a simple name's token, by the keyword that it spells
 abbrev pub kind_by : Option Keyword → List ℕ → TokenKind

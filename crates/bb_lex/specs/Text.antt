@@ -4,13 +4,13 @@ use Rattle.std.specs.Prelude.{◌≡◌, ℕ, ◌+◌, ◌^◌, ◌<◌, ◌≤�
 use Rattle.bb_lex.specs.declared.bytes.Class.TheVariants as class
 use Rattle.bb_lex.specs.declared.bytes.Base.{Base}
 use Rattle.bb_lex.specs.declared.lexer.Fence.{Fence}
-use Rattle.bb_lex.specs.declared.token.Mark.{Mark}
-use Rattle.bb_lex.specs.declared.token.Mark.TheVariants as marks
-use Rattle.bb_lex.specs.declared.fault.LexFault.{LexFault}
-use Rattle.bb_lex.specs.declared.fault.LexFault.TheVariants as faults
-use Rattle.bb_lex.specs.declared.token.TokenKind.{TokenKind}
-use Rattle.bb_lex.specs.declared.token.TokenKind.TheVariants as kinds
-use Rattle.bb_lex.specs.declared.token.Token.{Token}
+use Rattle.bb_base.specs.declared.token.Mark.{Mark}
+use Rattle.bb_base.specs.declared.token.Mark.TheVariants as marks
+use Rattle.bb_base.specs.declared.lex_fault.LexFault.{LexFault}
+use Rattle.bb_base.specs.declared.lex_fault.LexFault.TheVariants as faults
+use Rattle.bb_base.specs.declared.token.TokenKind.{TokenKind}
+use Rattle.bb_base.specs.declared.token.TokenKind.TheVariants as kinds
+use Rattle.bb_base.specs.declared.token.Token.{Token}
 use Rattle.bb_base.specs.Name.{is_name_byte}
 use Rattle.bb_base.specs.Words.{is_word_byte}
 use Rattle.bb_lex.specs.Bytes.{between, class_of, is_number, is_constant, is_odd, is_sign, base_of, is_base, radix_of, digit_of, is_digit, is_digit_or_low, value, AllOf, begins, feeds}

@@ -3,8 +3,7 @@
 ghost use Rattle.std.specs.Prelude.{◌≡◌};
 ghost use Rattle.bb_lex.specs.Bytes.{class_of, is_number, is_constant, is_odd, is_sign, digit_of, base_of, radix_of, line_after};
 
-use crate::Mark;
-use bb_base::may_start;
+use bb_base::{Mark, may_start};
 
 /// What a byte can begin.
 #[derive(Clone, Copy, Debug, PartialEq, Eq)]

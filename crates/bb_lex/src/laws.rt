@@ -1,8 +1,8 @@
 //! What readers may rely on: one outcome for each text, whatever the pieces.
 
 ghost use Rattle.std.specs.Prelude.{◌≡◌, ◌↔◌, ℕ, List, ◌++◌, Result};
-ghost use Rattle.bb_lex.specs.declared.token.Token.{Token as TokenValue};
-ghost use Rattle.bb_lex.specs.declared.fault.LexFault.{LexFault as FaultValue};
+ghost use Rattle.bb_base.specs.declared.token.Token.{Token as TokenValue};
+ghost use Rattle.bb_base.specs.declared.lex_fault.LexFault.{LexFault as FaultValue};
 ghost use Rattle.bb_lex.specs.Machine.{Machine, Failed, run, start, close, Closes, after_tokens};
 ghost use Rattle.bb_lex.specs.Ranges.{IsSound};
 ghost use Rattle.bb_lex.specs.Text.{Denotes};

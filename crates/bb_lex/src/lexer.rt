@@ -5,10 +5,10 @@ ghost use Rattle.bb_lex.specs.Bytes.{class_of, base_of, radix_of, with_digit, is
 ghost use Rattle.bb_lex.specs.Keywords.{word_kind};
 ghost use Rattle.bb_lex.specs.Fences.{closer, place_after, shown};
 ghost use Rattle.bb_lex.specs.Machine.{InNumber, InConstant, Failed, InFence, run, start, step, seen, told, IsKept, Stands, close, goes_on, more, begin, one, mode_of, answer_by, ending, IsEnding, checked, act, Gives, tick_byte, quoted, based, capped, number_limit, constant_limit, is_short};
-ghost use Rattle.bb_lex.specs.declared.token.TokenKind.TheVariants.{Const, Mark as MarkKind};
+ghost use Rattle.bb_base.specs.declared.token.TokenKind.TheVariants.{Const, Mark as MarkKind};
 ghost use Rattle.bb_lex.specs.declared.lexer.Place.TheVariants.{Outside};
-ghost use Rattle.bb_lex.specs.declared.fault.LexFault.{LexFault as FaultValue};
-ghost use Rattle.bb_lex.specs.declared.fault.LexFault.TheVariants.{BadNumber, NoMemory};
+ghost use Rattle.bb_base.specs.declared.lex_fault.LexFault.{LexFault as FaultValue};
+ghost use Rattle.bb_base.specs.declared.lex_fault.LexFault.TheVariants.{BadNumber, NoMemory};
 
 use crate::bytes::{
     Base, Class, base_of, class_of, digit_of, is_constant, is_number, is_odd, is_sign, line_after,
@@ -16,8 +16,7 @@ use crate::bytes::{
 };
 use crate::constant::{fits, with_digit};
 use crate::spelling::Spelling;
-use crate::{LexFault, Mark, Token, TokenKind};
-use bb_base::{keyword_of, may_follow};
+use bb_base::{LexFault, Mark, Token, TokenKind, keyword_of, may_follow};
 use std::alloc::Global;
 use std::marker::Model;
 

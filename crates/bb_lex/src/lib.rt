@@ -12,14 +12,9 @@
 
 mod bytes;
 mod constant;
-mod fault;
 mod laws;
 mod lexer;
 mod spelling;
-mod token;
 
-pub use bb_base::Keyword;
-pub use fault::LexFault;
 pub use laws::{a_fault_stands, any_cutting, in_range, one_reading};
 pub use lexer::Lexer;
-pub use token::{Mark, Token, TokenKind};

@@ -8,7 +8,7 @@ use Rattle.bb_base.specs.declared.operator.Op.TheVariants.{Zero, One}
 use Rattle.bb_base.specs.declared.variable.Role.{Role}
 use Rattle.bb_base.specs.declared.variable.Role.TheVariants.{Input, Output, Wire}
 use Rattle.bb_base.specs.Name.{IsName}
-use Rattle.bb_netlist.specs.Net.{Gate, Flop}
+use Rattle.bb_base.specs.Net.{Gate, Flop}
 use Rattle.bb_base.specs.Variables.{Entry, Bit}
 use Rattle.bb_base.specs.Words.{is_word_byte}
 use Rattle.bb_spell.specs.Spelling.{spelled_name, spelled_bit, spelled_range, further, joined, module_line, role_word, declaration, op_word, constant_line, primitive_line, statement_by, pins, flop_line}

@@ -7,7 +7,7 @@ use Rattle.bb_base.specs.declared.operator.Op.TheVariants.{And, Nand, Or, Nor, X
 use Rattle.bb_base.specs.declared.variable.Role.{Role}
 use Rattle.bb_base.specs.declared.variable.Role.TheVariants.{Input, Output, Wire}
 use Rattle.bb_base.specs.Name.{IsName}
-use Rattle.bb_netlist.specs.Net.{Gate, Flop}
+use Rattle.bb_base.specs.Net.{Gate, Flop}
 use Rattle.bb_base.specs.Operators.{IsArity}
 use Rattle.bb_base.specs.Variables.{Entry, Bit, IsEntry, IsRange}
 use Rattle.bb_base.specs.Words.{is_word_byte}

@@ -4,7 +4,7 @@ use Rattle.bb_base.specs.declared.operator.Op.{Op}
 use Rattle.bb_base.specs.declared.operator.Op.TheVariants.{And, Nand, Or, Nor, Xor, Xnor, Not, Buf, Zero, One}
 use Rattle.bb_base.specs.declared.variable.Role.{Role}
 use Rattle.bb_base.specs.declared.variable.Role.TheVariants.{Input, Output, Wire}
-use Rattle.bb_netlist.specs.Net.{Flop}
+use Rattle.bb_base.specs.Net.{Flop}
 use Rattle.bb_base.specs.Variables.{Bit}
 use Rattle.bb_spell.specs.Spelling.{module_line, declaration, statement_by, flop_line}
 use Rattle.bb_lines.specs.Lines.{word_role, declaration_of, op_of, statement_of}

@@ -7,9 +7,9 @@ use Rattle.std.specs.List.{prefix_len, AllByRecursion, flat_map, list_all}
 use Rattle.std.specs.Option.{option_map}
 use Rattle.std.specs.Str.{bytes_eq}
 use Rattle.bb_base.specs.Name.{IsName}
-use Rattle.bb_netlist.specs.Net.{Gate, Flop}
+use Rattle.bb_base.specs.Net.{Gate, Flop}
 use Rattle.bb_base.specs.Variables.{Entry, Bit, IsEntry}
-use Rattle.bb_net.specs.Named.{Design}
+use Rattle.bb_base.specs.Named.{Design}
 use Rattle.bb_base.specs.Words.{starts_word, is_word_byte}
 use Rattle.bb_spell.specs.Spelling.{is_simple, stands_plain, spelled_name, further, joined, module_line, declaration, gate_line, pins, flop_line}
 use Rattle.bb_base.specs.Keywords.{is_keyword}

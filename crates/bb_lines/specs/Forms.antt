@@ -4,7 +4,7 @@ use Rattle.std.specs.List.{AllByRecursion}
 use Rattle.bb_base.specs.declared.operator.Op.{Op}
 use Rattle.bb_base.specs.declared.operator.Op.TheVariants.{And, Nand, Or, Nor, Xor, Xnor, Not, Buf, Zero, One}
 use Rattle.bb_base.specs.Name.{IsName}
-use Rattle.bb_netlist.specs.Net.{Gate, Flop}
+use Rattle.bb_base.specs.Net.{Gate, Flop}
 use Rattle.bb_base.specs.Variables.{Entry, Bit, IsEntry}
 use Rattle.bb_spell.specs.TextLines.{IsLedTo, IsBadBehind}
 use Rattle.bb_spell.specs.Spelling.{module_line, declaration, gate_line, flop_line}

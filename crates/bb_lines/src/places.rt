@@ -7,7 +7,7 @@ ghost use Rattle.bb_spell.specs.Front.{IsRead};
 ghost use Rattle.bb_lines.specs.Places.{after_names, after_ports, head_of, counted_of, after_flops, after_gates, after_declarations, stage_after, may_end, bad_line, flops_before};
 
 use crate::statement::{Instance, read_declaration, read_pins, read_statement};
-use bb_net::Name;
+use bb_base::Name;
 use bb_spell::{LineFault, after, begins_with, next_line, read_name};
 use itoa::Buffer;
 use std::alloc::{AllocError, Global};

@@ -3,7 +3,7 @@ ghost use Rattle.bb_base.specs.Variables.{IsRange};
 ghost use Rattle.bb_spell.specs.Front.{IsRead};
 ghost use Rattle.bb_lines.specs.Lines.{head_name, word_role, declaration_of, op_of, with_front, front_bits, primitive_of, constant_op, constant_of, statement_of, flop_pins, flop_of};
 
-use bb_net::{Name, Op, Role, Variable};
+use bb_base::{Name, Op, Role, Variable};
 use bb_spell::{
     BitText, LineFault, after, begins_with, read_bit, read_name, read_range, read_small, word_at,
 };
@@ -20,7 +20,7 @@ pub struct Statement {
 
 impl Model for Statement {
     ghost use Rattle.bb_base.specs.Variables.{Bit};
-    ghost use Rattle.bb_netlist.specs.Net.{Gate};
+    ghost use Rattle.bb_base.specs.Net.{Gate};
 
     ghost Value = { Gate Bit };
 

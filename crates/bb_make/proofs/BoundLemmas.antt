@@ -4,12 +4,12 @@ use Rattle.std.proofs.lemmas.List.Elements.{All-from_recursion}
 use Rattle.std.proofs.lemmas.Slice.Zip.{AllZip-long}
 use Rattle.std.specs.List.{AllByRecursion, AllZip}
 use Rattle.bb_base.proofs.Lists.{length_map}
-use Rattle.bb_netlist.specs.Net.{Netlist}
-use Rattle.bb_rules.specs.declared.plan.Cell.{Cell}
-use Rattle.bb_rules.specs.Plan.{PlanValue, observers}
-use Rattle.bb_rules.specs.Rules.{Frame}
-use Rattle.bb_rules.specs.Valid.{IsValidPlan, ValidValue, IsValidFor, SegmentValue, IsSegmentOf, column_at}
-use Rattle.bb_rules.specs.Signatures.{AreSignatures, IsSigned}
+use Rattle.bb_base.specs.Net.{Netlist}
+use Rattle.bb_terms.specs.declared.plan.Cell.{Cell}
+use Rattle.bb_terms.specs.Plan.{PlanValue, observers}
+use Rattle.bb_terms.specs.Rules.{Frame}
+use Rattle.bb_terms.specs.Valid.{IsValidPlan, ValidValue, IsValidFor, SegmentValue, IsSegmentOf, column_at}
+use Rattle.bb_terms.specs.Signatures.{AreSignatures, IsSigned}
 use Rattle.bb_written.proofs.Few.{are_few}
 use Rattle.bb_make.specs.Bounds.{HasBounds}
 

@@ -1,11 +1,11 @@
 -- A plan that is chosen for a named netlist of few bits is valid.
 use Rattle.std.proofs.Common.{arith, ℕ, ◌≤◌, List, length}
 use Rattle.bb_base.specs.Variables.{bit_count}
-use Rattle.bb_netlist.specs.Net.{Netlist, IsNetlist, driven}
-use Rattle.bb_netlist.specs.Order.{IsOrder}
-use Rattle.bb_net.specs.Named.{Named, IsNamed}
-use Rattle.bb_rules.specs.Plan.{PlanValue}
-use Rattle.bb_rules.specs.Valid.{IsValidPlan}
+use Rattle.bb_base.specs.Net.{Netlist, IsNetlist, driven}
+use Rattle.bb_base.specs.Order.{IsOrder}
+use Rattle.bb_base.specs.Named.{Named, IsNamed}
+use Rattle.bb_terms.specs.Plan.{PlanValue}
+use Rattle.bb_terms.specs.Valid.{IsValidPlan}
 use Rattle.bb_words.specs.declared.command.Settings.{Settings}
 use Rattle.bb_choose.specs.Arranged.{AreInRange}
 use Rattle.bb_choose.specs.Choice.{IsChosenPlan}

@@ -1,11 +1,11 @@
 -- A netlist with the sites of the written one is a self-test, and its text denotes it alone.
 use Rattle.std.proofs.Common.{◌≡◌, ◌∙◌, ℕ, true, List, Ok, ap, subst}
-use Rattle.bb_net.specs.Named.{Named, IsNamed, IsByBits}
+use Rattle.bb_base.specs.Named.{Named, IsNamed, IsByBits}
 use Rattle.bb_net.specs.Sites.{sited}
-use Rattle.bb_elab.specs.Denotes.{ElaboratesTo}
+use Rattle.bb_meaning.specs.Denotes.{ElaboratesTo}
 use Rattle.bb_print.specs.Elaborated.{Restores}
-use Rattle.bb_rules.specs.Plan.{PlanValue}
-use Rattle.bb_rules.specs.Valid.{IsValidPlan}
+use Rattle.bb_terms.specs.Plan.{PlanValue}
+use Rattle.bb_terms.specs.Valid.{IsValidPlan}
 use Rattle.bb_ctl.specs.OwnNames.{HasOwnNames}
 use Rattle.bb_written.specs.Written.{written}
 use Rattle.bb_normal.specs.Mirrors.{Mirrors}

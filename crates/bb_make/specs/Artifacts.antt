@@ -3,15 +3,15 @@
 use Rattle.std.specs.Prelude.{◌≡◌, ℕ, ◌≤◌, true, List, length, nat_eq, Result, Ok}
 use Rattle.std.specs.List.{AllByRecursion, AllZip}
 use Rattle.std.specs.Set.{distinct_count}
-use Rattle.bb_netlist.specs.Net.{Netlist}
-use Rattle.bb_net.specs.Named.{Named, IsNamed, IsByBits, design_of}
+use Rattle.bb_base.specs.Net.{Netlist}
+use Rattle.bb_base.specs.Named.{Named, IsNamed, IsByBits, design_of}
 use Rattle.bb_net.specs.Sites.{sited}
 use Rattle.bb_fault.specs.declared.fault.ElabFault.{ElabFault}
-use Rattle.bb_elab.specs.Denotes.{ElaboratesTo}
+use Rattle.bb_meaning.specs.Denotes.{ElaboratesTo}
 use Rattle.bb_spell.specs.Canonical.{canonical_text}
-use Rattle.bb_rules.specs.Plan.{PlanValue, chain, observers}
-use Rattle.bb_rules.specs.Valid.{IsValidPlan, SegmentValue, IsSegmentOf}
-use Rattle.bb_rules.specs.Signatures.{AreSignatures}
+use Rattle.bb_terms.specs.Plan.{PlanValue, chain, observers}
+use Rattle.bb_terms.specs.Valid.{IsValidPlan, SegmentValue, IsSegmentOf}
+use Rattle.bb_terms.specs.Signatures.{AreSignatures}
 use Rattle.bb_words.specs.declared.command.Settings.{Settings}
 use Rattle.bb_choose.specs.Choice.{IsChosenPlan}
 use Rattle.bb_written.specs.Written.{written}

@@ -1,7 +1,7 @@
 -- A plan's signatures and its certificate as their files say them (this project's own).
 use Rattle.std.specs.Prelude.{ℕ, ◌^◌, List, map, zip}
-use Rattle.bb_rules.specs.Plan.{PlanValue}
-use Rattle.bb_rules.specs.Valid.{SegmentValue}
+use Rattle.bb_terms.specs.Plan.{PlanValue}
+use Rattle.bb_terms.specs.Valid.{SegmentValue}
 use Rattle.bb_forms.specs.declared.signature.Signature.{Signature}
 use Rattle.bb_forms.specs.CertificateText.{CertificateSegmentValue, CertificateValue}
 

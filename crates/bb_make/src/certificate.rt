@@ -5,7 +5,7 @@ ghost use Rattle.bb_make.specs.Files.{certified, certificate_of};
 
 use arrayvec::ArrayVec;
 use bb_forms::{Certificate, CertificateSegment};
-use bb_rules::{Segment, Valid};
+use bb_terms::{Segment, Valid};
 use std::alloc::{AllocError, Global};
 
 /// The source cells of leaves, each with the dual of its column.

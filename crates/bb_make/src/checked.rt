@@ -1,12 +1,14 @@
 //! A plan that is valid, with its segments.
 
 ghost use Rattle.std.specs.Prelude.{◌≡◌, IfOk};
-ghost use Rattle.bb_netlist.specs.Order.{IsOrder};
-ghost use Rattle.bb_rules.specs.Valid.{IsValidPlan, IsValidFor};
+ghost use Rattle.bb_base.specs.Order.{IsOrder};
+ghost use Rattle.bb_terms.specs.Valid.{IsValidPlan, IsValidFor};
 
-use bb_netlist::{Netlist, Order};
+use bb_base::Netlist;
+use bb_netlist::Order;
 use bb_plan::validate;
-use bb_rules::{Plan, PlanFault, Valid, one_fault};
+use bb_rules::one_fault;
+use bb_terms::{Plan, PlanFault, Valid};
 use std::alloc::{AllocError, Global};
 
 /// Want of memory, where no rule fails.

@@ -2,9 +2,9 @@
 
 ghost use Rattle.std.specs.Prelude.{◌≡◌, ◌≤◌, ℕ, IfOk, IsErrOf};
 ghost use Rattle.bb_base.specs.Variables.{bit_count};
-ghost use Rattle.bb_netlist.specs.Order.{IsOrder};
-ghost use Rattle.bb_segment.specs.Cuts.{IsFirstWide};
-ghost use Rattle.bb_rules.specs.Valid.{IsValidFor};
+ghost use Rattle.bb_base.specs.Order.{IsOrder};
+ghost use Rattle.bb_terms.specs.Cuts.{IsFirstWide};
+ghost use Rattle.bb_terms.specs.Valid.{IsValidFor};
 ghost use Rattle.bb_ctl.specs.OwnNames.{HasOwnNames};
 ghost use Rattle.bb_code.specs.declared.fault.Need.{Need as NeedValue};
 ghost use Rattle.bb_words.specs.declared.command.Settings.{Settings as SettingsValue};
@@ -22,8 +22,8 @@ use bb_choose::{ChoiceFault, Settings, choose, chosen_plans_are_valid};
 use bb_net::{Named, nets_are_bits};
 use bb_netlist::Order;
 use bb_normal::mirrors_itself;
-use bb_rules::Valid;
 use bb_selftest::mirrors_are_self_tests;
+use bb_terms::Valid;
 use std::alloc::{AllocError, Global};
 
 /// The texts of a valid plan, and what is counted.

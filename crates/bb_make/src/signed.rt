@@ -5,7 +5,7 @@ ghost use Rattle.std.specs.List.{AllZip};
 ghost use Rattle.bb_make.specs.Files.{signed_session, signed_sessions};
 
 use bb_forms::Signature;
-use bb_rules::Session;
+use bb_terms::Session;
 use std::alloc::{AllocError, Global};
 
 /// The registers of a session, each with its signature.

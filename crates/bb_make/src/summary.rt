@@ -6,8 +6,8 @@ ghost use Rattle.bb_make.specs.Artifacts.{IsSummary};
 ghost use Rattle.bb_make.specs.Bounds.{HasBounds};
 
 use crate::artifacts::Summary;
-use bb_netlist::Netlist;
-use bb_rules::Plan;
+use bb_base::Netlist;
+use bb_terms::Plan;
 
 /// The counts of a netlist and its plan, whose test takes so many cycles.
 pub(crate) fn summary_of(netlist: &Netlist, plan: &Plan, cycles: u64) -> Summary

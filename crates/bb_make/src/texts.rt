@@ -2,11 +2,11 @@
 
 ghost use Rattle.std.specs.Prelude.{◌≡◌, ◌≤◌, ℕ, List, length, All, IfOk};
 ghost use Rattle.bb_base.specs.Variables.{bit_count};
-ghost use Rattle.bb_netlist.specs.Order.{HasOrder, IsOrder};
-ghost use Rattle.bb_net.specs.Named.{Named as NamedValue, IsByBits, design_of};
+ghost use Rattle.bb_base.specs.Order.{HasOrder, IsOrder};
+ghost use Rattle.bb_base.specs.Named.{Named as NamedValue, IsByBits, design_of};
 ghost use Rattle.bb_spell.specs.Canonical.{canonical_text};
-ghost use Rattle.bb_rules.specs.Valid.{IsValidFor};
-ghost use Rattle.bb_rules.specs.Signatures.{AreSignatures};
+ghost use Rattle.bb_terms.specs.Valid.{IsValidFor};
+ghost use Rattle.bb_terms.specs.Signatures.{AreSignatures};
 ghost use Rattle.bb_ctl.specs.OwnNames.{HasOwnNames};
 ghost use Rattle.bb_forms.specs.ScheduleText.{schedule_text as schedule_text_of};
 ghost use Rattle.bb_forms.specs.SignatureText.{signature_text as signature_text_of};
@@ -17,12 +17,13 @@ ghost use Rattle.bb_make.specs.Bounds.{HasBounds};
 
 use crate::certificate::certificate_of;
 use crate::signed::signed_sessions;
+use bb_base::Netlist;
 use bb_forms::{certificate_text, schedule_text, signature_text};
 use bb_net::Named;
-use bb_netlist::{Netlist, Order};
+use bb_netlist::Order;
 use bb_print::print;
-use bb_rules::{Plan, Valid};
 use bb_sign::signatures;
+use bb_terms::{Plan, Valid};
 use bb_weave::weave;
 use std::alloc::{AllocError, Global};
 

@@ -1,7 +1,7 @@
 // What is made of the netlists of canonical texts.
 
 ghost use Rattle.std.specs.Prelude.{IfSome};
-ghost use Rattle.bb_netlist.specs.Order.{IsOrder};
+ghost use Rattle.bb_base.specs.Order.{IsOrder};
 
 use crate::premises::{are_in_range, is_fit_for_a_test};
 use bb_canon::read_canonical;

@@ -9,16 +9,16 @@ use Rattle.bb_parse.specs.declared.syntax.Ref.{Ref}
 use Rattle.bb_parse.specs.declared.syntax.Step.{Step}
 use Rattle.bb_parse.specs.declared.syntax.Step.TheVariants as step
 use Rattle.bb_fault.proofs.Parted.{none-first, none-second}
-use Rattle.bb_gates.specs.declared.value.Bit.{Bit}
-use Rattle.bb_gates.specs.declared.value.Bit.TheVariants.{Net, Fixed}
+use Rattle.bb_scope.specs.declared.value.Bit.{Bit}
+use Rattle.bb_scope.specs.declared.value.Bit.TheVariants.{Net, Fixed}
 use Rattle.bb_scope.specs.Names.{step_names, steps_names}
-use Rattle.bb_width.specs.Sizes.{width, step_fault, step_stack, steps_fault, steps_stack, last_size}
-use Rattle.bb_drive.specs.Work.{Work, Clocked, make, drive, constant}
-use Rattle.bb_gates.specs.Making.{New, To, grounded, each_alone, each_pair, each_choice, as_value, inverted, joined_by, choice_between, last_value, step_made, copied_onto, makes_gates, assigned}
-use Rattle.bb_gates.proofs.WithinSteps.{AreKnown, IsKnown}
-use Rattle.bb_meaning.specs.ValueSizes.{value_size, value_sizes}
-use Rattle.bb_meaning.proofs.Operators.{width_is, grounded-length, lesser}
-use Rattle.bb_meaning.proofs.Expressions.{counted}
+use Rattle.bb_scope.specs.Sizes.{width, step_fault, step_stack, steps_fault, steps_stack, last_size}
+use Rattle.bb_fault.specs.Work.{Work, Clocked, make, drive, constant}
+use Rattle.bb_scope.specs.Making.{New, To, grounded, each_alone, each_pair, each_choice, as_value, inverted, joined_by, choice_between, last_value, step_made, copied_onto, makes_gates, assigned}
+use Rattle.bb_meaning.proofs.WithinSteps.{AreKnown, IsKnown}
+use Rattle.bb_scope.specs.ValueSizes.{value_size, value_sizes}
+use Rattle.bb_scope.proofs.Operators.{width_is, grounded-length, lesser}
+use Rattle.bb_scope.proofs.Expressions.{counted}
 use Rattle.bb_meaning.proofs.MadeBits.{AllMeet, read_bits, nets-read, drive-bits, constant-gives}
 use Rattle.bb_meaning.proofs.StepValues.{step_value, steps_value}
 use Rattle.bb_meaning.proofs.StepBits.{AreRead, read_all, last_bits, last-read, step-bits}

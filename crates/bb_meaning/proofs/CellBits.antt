@@ -18,13 +18,13 @@ use Rattle.bb_scope.specs.declared.cells.Body.{Body}
 use Rattle.bb_scope.specs.declared.cells.Body.TheVariants.{FlipFlop, Gate, SecondInverted, Choice}
 use Rattle.bb_scope.specs.Names.{conns_names, has_name}
 use Rattle.bb_scope.specs.Cells.{Kind, kinds, kind_of, Pin, is_plain, by_place, pins_of, is_known, is_repeated, is_given, is_right_out, are_right_pins, are_right_places}
-use Rattle.bb_width.specs.Sizes.{expr_fault}
-use Rattle.bb_width.specs.Parts.{pin_fault, cell_fault}
-use Rattle.bb_drive.specs.Work.{Work, Clocked, make, make_onto, flop_made}
-use Rattle.bb_gates.specs.Making.{Outs, To, Read, first_out, terminal_made, driven_bits, pins_made, nets_of, out_of, out_net, flip_flop_made, all_nets, second_inverted, multiplexer_made, body_made, kind_made, cell_made}
-use Rattle.bb_gates.proofs.WithinSteps.{AreKnown}
+use Rattle.bb_scope.specs.Sizes.{expr_fault}
+use Rattle.bb_scope.specs.Parts.{pin_fault, cell_fault}
+use Rattle.bb_fault.specs.Work.{Work, Clocked, make, make_onto, flop_made}
+use Rattle.bb_scope.specs.Making.{Outs, To, Read, first_out, terminal_made, driven_bits, pins_made, nets_of, out_of, out_net, flip_flop_made, all_nets, second_inverted, multiplexer_made, body_made, kind_made, cell_made}
+use Rattle.bb_meaning.proofs.WithinSteps.{AreKnown}
 use Rattle.bb_meaning.specs.Statements.{cell_gives}
-use Rattle.bb_meaning.proofs.Instances.{apart, plain-bit, takes, IsRow, all_rows, row_of, OneEach, one-each, placed-fault, placed-all, some-place, right-conns, fine-conns}
+use Rattle.bb_scope.proofs.Instances.{apart, plain-bit, takes, IsRow, all_rows, row_of, OneEach, one-each, placed-fault, placed-all, some-place, right-conns, fine-conns}
 use Rattle.bb_meaning.proofs.MadeBits.{AllMeet, make-bits, onto-bits, choice-bits}
 use Rattle.bb_meaning.proofs.StepBits.{AreRead, terminal-bits}
 use Rattle.bb_meaning.proofs.Pins.{IsPinKnown, pins-known}

@@ -13,12 +13,12 @@ use Rattle.bb_fault.specs.Firsts.{first_answer}
 use Rattle.bb_fault.proofs.Parted.{none-first, none-second}
 use Rattle.bb_scope.specs.Names.{steps_names, item_names}
 use Rattle.bb_scope.specs.References.{ref_fault, ref_bits, left_width}
-use Rattle.bb_width.specs.Sizes.{width, differs, steps_stack, last_size, steps_fault, expr_fault}
-use Rattle.bb_width.specs.Parts.{assign_fault, item_fault}
-use Rattle.bb_drive.specs.Work.{Work}
-use Rattle.bb_gates.specs.Making.{assigned, item_made, items_made}
-use Rattle.bb_gates.proofs.WithinSteps.{AreKnown, IsKnown}
-use Rattle.bb_meaning.proofs.Assigns.{fine-width, targets-length}
+use Rattle.bb_scope.specs.Sizes.{width, differs, steps_stack, last_size, steps_fault, expr_fault}
+use Rattle.bb_scope.specs.Parts.{assign_fault, item_fault}
+use Rattle.bb_fault.specs.Work.{Work}
+use Rattle.bb_scope.specs.Making.{assigned, item_made, items_made}
+use Rattle.bb_meaning.proofs.WithinSteps.{AreKnown, IsKnown}
+use Rattle.bb_scope.proofs.Assigns.{fine-width, targets-length}
 use Rattle.bb_meaning.proofs.MadeBits.{AllMeet}
 use Rattle.bb_meaning.proofs.StepBits.{AreRead, ref-bits}
 use Rattle.bb_meaning.proofs.AssignBits.{assigned-bits}

@@ -1,8 +1,3 @@
-pub mod Operators
-pub mod Expressions
-pub mod Assigns
-pub mod Instances
-pub mod Counting
 pub mod Mentioned
 pub mod Pins
 pub mod MadeBits
@@ -15,3 +10,7 @@ pub mod CellBits
 pub mod ItemBits
 pub mod StatementBits
 pub mod Rows
+pub mod WithinGates
+pub mod WithinSteps
+pub mod AllItems
+pub mod CountedFault

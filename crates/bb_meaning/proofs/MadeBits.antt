@@ -6,11 +6,11 @@ use Rattle.bb_base.specs.Operators.{op_gives, first_bit}
 use Rattle.bb_base.specs.declared.operator.Op.{Op}
 use Rattle.bb_base.specs.declared.operator.Op.TheVariants.{And, Or, Not}
 use Rattle.bb_base.proofs.Lists.{all_front, all_back, map_twice, length_map}
-use Rattle.bb_netlist.specs.Run.{Meets}
-use Rattle.bb_gates.specs.declared.value.Bit.{Bit}
-use Rattle.bb_gates.specs.declared.value.Bit.TheVariants.{Net, Fixed}
-use Rattle.bb_drive.specs.Work.{Work, Clocked, make, make_onto, drive, constant}
-use Rattle.bb_gates.specs.Making.{Outs, grounded, each_alone, each_pair, each_choice, first_out, other_outs, as_value, inverted, joined_by, choice_between}
+use Rattle.bb_base.specs.Run.{Meets}
+use Rattle.bb_scope.specs.declared.value.Bit.{Bit}
+use Rattle.bb_scope.specs.declared.value.Bit.TheVariants.{Net, Fixed}
+use Rattle.bb_fault.specs.Work.{Work, Clocked, make, make_onto, drive, constant}
+use Rattle.bb_scope.specs.Making.{Outs, grounded, each_alone, each_pair, each_choice, first_out, other_outs, as_value, inverted, joined_by, choice_between}
 use Rattle.bb_meaning.specs.Values.{bitwise}
 
 -- each gate that has been made meets its equation, and F holds of each flip-flop

@@ -11,7 +11,7 @@ use Rattle.bb_scope.specs.Names.{mentioned, has_name, with_new_name, variable_na
 use Rattle.bb_scope.specs.Declarations.{declarations}
 use Rattle.bb_scope.specs.Variables.{entry_of, variables}
 use Rattle.bb_drive.specs.Nets.{is_variable}
-use Rattle.bb_gates.proofs.WithinSteps.{AreKnown}
+use Rattle.bb_meaning.proofs.WithinSteps.{AreKnown}
 
 -- a name that stands still stands, and one that is added does
 with_kept : (names : List (List ℕ)) (m name : List ℕ) → has_name names name ≡ true → has_name (with_new_name names m) name ≡ true

@@ -9,7 +9,7 @@ use Rattle.bb_parse.specs.declared.syntax.Conns.TheVariants.{Places, Pins}
 use Rattle.bb_parse.specs.declared.syntax.Step.{Step}
 use Rattle.bb_scope.specs.Names.{steps_names, pin_names, conns_names}
 use Rattle.bb_scope.specs.Cells.{Kind, Pin, pins_of}
-use Rattle.bb_gates.proofs.WithinSteps.{AreKnown, IsKnown}
+use Rattle.bb_meaning.proofs.WithinSteps.{AreKnown, IsKnown}
 
 -- the names in what pins are connected to are those of variables
 abbrev pub IsPinKnown : List Entry → Pin → Type 0

@@ -17,14 +17,14 @@ use Rattle.bb_scope.specs.Names.{steps_names}
 use Rattle.bb_scope.specs.Cells.{is_plain}
 use Rattle.bb_scope.specs.References.{ref_fault}
 use Rattle.bb_scope.specs.Terminals.{out_count, outs_of, ins_of}
-use Rattle.bb_width.specs.Sizes.{width, differs, steps_stack, last_size, steps_fault, expr_fault}
-use Rattle.bb_width.specs.Parts.{are_right_terms, prim_fault}
-use Rattle.bb_drive.specs.Work.{Work, Clocked, drive}
-use Rattle.bb_gates.specs.Making.{terminal_made, terminals_made, all_driven, driven_bits, prim_made}
-use Rattle.bb_gates.proofs.AllItems.{all_take, all_drop}
-use Rattle.bb_gates.proofs.WithinSteps.{AreKnown}
-use Rattle.bb_meaning.proofs.Assigns.{right-terms}
-use Rattle.bb_meaning.proofs.Instances.{plain-bit, fine-conns}
+use Rattle.bb_scope.specs.Sizes.{width, differs, steps_stack, last_size, steps_fault, expr_fault}
+use Rattle.bb_scope.specs.Parts.{are_right_terms, prim_fault}
+use Rattle.bb_fault.specs.Work.{Work, Clocked, drive}
+use Rattle.bb_scope.specs.Making.{terminal_made, terminals_made, all_driven, driven_bits, prim_made}
+use Rattle.bb_meaning.proofs.AllItems.{all_take, all_drop}
+use Rattle.bb_meaning.proofs.WithinSteps.{AreKnown}
+use Rattle.bb_scope.proofs.Assigns.{right-terms}
+use Rattle.bb_scope.proofs.Instances.{plain-bit, fine-conns}
 use Rattle.bb_meaning.proofs.MadeBits.{AllMeet, drive-bits}
 use Rattle.bb_meaning.proofs.StepValues.{steps_value}
 use Rattle.bb_meaning.proofs.StepBits.{AreRead, last_bits, ref-bits, terminal-bits}

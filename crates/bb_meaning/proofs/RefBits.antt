@@ -15,7 +15,7 @@ use Rattle.bb_fault.proofs.Keys.{same_name}
 use Rattle.bb_scope.specs.declared.references.Span.{Span}
 use Rattle.bb_scope.specs.References.{range_in, distance, is_in_range, selected, first_number, span_bits}
 use Rattle.bb_drive.specs.Nets.{is_variable, bit_name}
-use Rattle.bb_gates.proofs.WithinSteps.{IsKnown, part_ends, ends_within}
+use Rattle.bb_meaning.proofs.WithinSteps.{IsKnown, part_ends, ends_within}
 use Rattle.bb_meaning.specs.Values.{Bits, only_bit, element, indices, elements, whole_variable, reference_bits}
 use Rattle.bb_meaning.specs.Statements.{AreBitsOf}
 use Rattle.bb_meaning.proofs.StepValues.{by_ref}

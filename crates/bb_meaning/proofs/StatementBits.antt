@@ -19,12 +19,12 @@ use Rattle.bb_scope.specs.Terminals.{out_count}
 use Rattle.bb_scope.specs.Variables.{variables}
 use Rattle.bb_scope.specs.declared.cells.Body.{Body}
 use Rattle.bb_scope.specs.declared.cells.Body.TheVariants as body
-use Rattle.bb_width.specs.Parts.{bad_part}
-use Rattle.bb_netlist.specs.Run.{Meets}
-use Rattle.bb_width.specs.Sizes.{expr_fault}
-use Rattle.bb_drive.specs.Work.{Work, Clocked}
-use Rattle.bb_gates.specs.Making.{terminal_made, work_of}
-use Rattle.bb_gates.proofs.WithinSteps.{IsKnown}
+use Rattle.bb_scope.specs.Parts.{bad_part}
+use Rattle.bb_base.specs.Run.{Meets}
+use Rattle.bb_scope.specs.Sizes.{expr_fault}
+use Rattle.bb_fault.specs.Work.{Work, Clocked}
+use Rattle.bb_scope.specs.Making.{terminal_made, work_of}
+use Rattle.bb_meaning.proofs.WithinSteps.{IsKnown}
 use Rattle.bb_meaning.specs.Values.{Bits, value, left_value, lefts_value, reference_bits}
 use Rattle.bb_meaning.specs.Statements.{AreBitsOf, EquationHolds, rest_of, terminals, TerminalsHold, GateHolds, PinRead, pins_in, pin_value, is_connected, cell_gives, out_read, PinsHold, InstanceHolds, StatementHolds, IsWorkCycle}
 use Rattle.bb_meaning.proofs.Mentioned.{mentioned_known}

@@ -14,17 +14,17 @@ use Rattle.bb_parse.specs.declared.syntax.Step.{Step}
 use Rattle.bb_parse.specs.declared.syntax.Step.TheVariants as step
 use Rattle.bb_scope.specs.declared.references.Span.{Span}
 use Rattle.bb_fault.proofs.Parted.{both-first, both-second, none-first, none-second}
-use Rattle.bb_gates.specs.declared.value.Bit.{Bit}
+use Rattle.bb_scope.specs.declared.value.Bit.{Bit}
 use Rattle.bb_scope.specs.Names.{step_names, steps_names}
 use Rattle.bb_scope.specs.References.{ref_span, ref_fault, span_fault, ref_bits}
-use Rattle.bb_width.specs.Sizes.{width, step_fault, step_stack, steps_fault, differs, expr_fault, last_size, steps_stack}
-use Rattle.bb_drive.specs.Work.{Work, Clocked}
-use Rattle.bb_gates.specs.Making.{Outs, New, const_bits, copies as copies_made, side_by_side, last_value, joined_by, choice_between, step_made, steps_made, terminal_made}
-use Rattle.bb_gates.proofs.WithinSteps.{AreKnown, IsKnown}
-use Rattle.bb_meaning.specs.ValueSizes.{value_size, value_sizes}
+use Rattle.bb_scope.specs.Sizes.{width, step_fault, step_stack, steps_fault, differs, expr_fault, last_size, steps_stack}
+use Rattle.bb_fault.specs.Work.{Work, Clocked}
+use Rattle.bb_scope.specs.Making.{Outs, New, const_bits, copies as copies_made, side_by_side, last_value, joined_by, choice_between, step_made, steps_made, terminal_made}
+use Rattle.bb_meaning.proofs.WithinSteps.{AreKnown, IsKnown}
+use Rattle.bb_scope.specs.ValueSizes.{value_size, value_sizes}
 use Rattle.bb_meaning.specs.Values.{bitwise, xnor, number_bits, copied_bits}
-use Rattle.bb_meaning.proofs.Operators.{width_is}
-use Rattle.bb_meaning.proofs.Expressions.{counted}
+use Rattle.bb_scope.proofs.Operators.{width_is}
+use Rattle.bb_scope.proofs.Expressions.{counted}
 use Rattle.bb_meaning.proofs.MadeBits.{AllMeet, read_bits, bit_read, nets-read, of_two, grounded-bits, inverted-bits, joined-bits, chosen-bits}
 use Rattle.bb_meaning.proofs.StepValues.{step_value, steps_value}
 

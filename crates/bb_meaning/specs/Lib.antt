@@ -1,3 +1,5 @@
 pub mod Values
 pub mod Statements
-pub mod ValueSizes
+pub mod Outcome
+pub mod Denotes
+pub mod LoopNames

@@ -6,9 +6,9 @@ use Rattle.bb_base.specs.declared.operator.Op.{Op}
 use Rattle.bb_base.specs.Operators.{op_gives, first_bit}
 use Rattle.bb_base.specs.Variables.{Entry, bit_count}
 use Rattle.bb_parse.specs.Trees.{Name, Select, Expr, Exprs, NoExprs, MoreExprs, Terms, Equation, Gate, Conns, Places, NoPins, Pins, Instance, Statement, Directs, Wires, Assigns, Gates, Cells}
-use Rattle.bb_netlist.specs.Run.{Meets}
+use Rattle.bb_base.specs.Run.{Meets}
 use Rattle.bb_drive.specs.Nets.{bit_text}
-use Rattle.bb_drive.specs.Work.{Work}
+use Rattle.bb_fault.specs.Work.{Work}
 use Rattle.bb_scope.specs.declared.cells.Body.{Body}
 use Rattle.bb_scope.specs.declared.cells.Body.TheVariants as body
 use Rattle.bb_scope.specs.Cells.{Kind, kind_of}

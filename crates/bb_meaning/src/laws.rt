@@ -3,17 +3,17 @@
 ghost use Rattle.std.specs.Prelude.{◌≡◌, ℕ, Bool, true, List, None, map};
 ghost use Rattle.std.specs.List.{AllByRecursion};
 ghost use Rattle.bb_base.specs.Variables.{Entry};
-ghost use Rattle.bb_netlist.specs.Run.{Meets};
+ghost use Rattle.bb_base.specs.Run.{Meets};
 ghost use Rattle.bb_parse.specs.declared.syntax.Module.{Module as ModuleValue};
 ghost use Rattle.bb_parse.specs.Trees.{Expr as ExprTree, File as FileTree};
 ghost use Rattle.bb_parse.specs.Meaning.{steps_of, module_of};
 ghost use Rattle.bb_scope.specs.Names.{steps_names};
 ghost use Rattle.bb_scope.specs.Variables.{variables};
-ghost use Rattle.bb_width.specs.Sizes.{expr_fault};
-ghost use Rattle.bb_width.specs.Parts.{bad_part, all_bits};
+ghost use Rattle.bb_scope.specs.Sizes.{expr_fault};
+ghost use Rattle.bb_scope.specs.Parts.{bad_part, all_bits};
 ghost use Rattle.bb_drive.specs.Nets.{is_variable};
-ghost use Rattle.bb_drive.specs.Work.{Work};
-ghost use Rattle.bb_gates.specs.Making.{terminal_made, work_of};
+ghost use Rattle.bb_fault.specs.Work.{Work};
+ghost use Rattle.bb_scope.specs.Making.{terminal_made, work_of};
 ghost use Rattle.bb_meaning.specs.Values.{Bits, value, reference_bits};
 ghost use Rattle.bb_meaning.specs.Statements.{AreBitsOf, StatementHolds, IsWorkCycle};
 

@@ -1,2 +1,3 @@
 pub mod MadeBits
 pub mod TextEnds
+pub mod ReadNames

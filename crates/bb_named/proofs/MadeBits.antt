@@ -8,11 +8,11 @@ use Rattle.bb_base.specs.Variables.{Entry, bit_count, limit_of}
 use Rattle.bb_parse.specs.declared.syntax.Module.{Module}
 use Rattle.bb_scope.specs.Variables.{variables}
 use Rattle.bb_fault.specs.Limits.{too_many}
-use Rattle.bb_width.specs.Parts.{bad_part, too_many_bits}
+use Rattle.bb_scope.specs.Parts.{bad_part, too_many_bits}
 use Rattle.bb_drive.specs.Nets.{made_variable, made_names, made_count, is_variable}
 use Rattle.bb_base.specs.OwnNames.{made_name}
-use Rattle.bb_elab.specs.Outcome.{first_fault, net_fault, too_many_made, variables_in, work_in}
-use Rattle.bb_width.specs.Text.{name_fault}
+use Rattle.bb_meaning.specs.Outcome.{first_fault, net_fault, too_many_made, variables_in, work_in}
+use Rattle.bb_scope.specs.Text.{name_fault}
 use Rattle.bb_scope.specs.Cells.{unknown_cell}
 use Rattle.bb_scope.specs.Names.{reserved}
 use Rattle.bb_scope.specs.Declarations.{redeclared, bad_port}

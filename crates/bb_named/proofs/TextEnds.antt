@@ -2,15 +2,15 @@
 use Rattle.std.proofs.Common.{arith, ◌≡◌, ◌⊎◌, inl, inr, ℕ, ◌<◌, ◌≤◌, nat_lt, Bool, true, false, List, length, refl, ap}
 use Rattle.std.proofs.lemmas.Bool.Decides.{nat_tests}
 use Rattle.std.specs.Prelude.{Result, Ok, Err}
-use Rattle.bb_net.specs.Named.{Named}
-use Rattle.bb_lex.specs.declared.fault.LexFault.{LexFault}
+use Rattle.bb_base.specs.Named.{Named}
+use Rattle.bb_base.specs.declared.lex_fault.LexFault.{LexFault}
 use Rattle.bb_parse.specs.declared.syntax.Module.{Module}
 use Rattle.bb_parse.specs.declared.fault.ParseFault.{ParseFault}
 use Rattle.bb_parse.specs.Sound.{IsSoundModule}
-use Rattle.bb_parse.specs.Texts.{IsModuleOf, HasLexFault, HasParseFault}
+use Rattle.bb_grammar.specs.Texts.{IsModuleOf, HasLexFault, HasParseFault}
 use Rattle.bb_fault.specs.declared.fault.ElabFault.{ElabFault}
-use Rattle.bb_elab.specs.Outcome.{IsOutcome}
-use Rattle.bb_elab.specs.Denotes.{ElaboratesTo}
+use Rattle.bb_meaning.specs.Outcome.{IsOutcome}
+use Rattle.bb_meaning.specs.Denotes.{ElaboratesTo}
 use Rattle.bb_say.specs.declared.refusal.TextRefusal.{TextRefusal}
 use Rattle.bb_say.specs.declared.refusal.TextRefusal.TheVariants as refusals
 use Rattle.bb_named.specs.Texts.{IsTextRefused, ComesTo}

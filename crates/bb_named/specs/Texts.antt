@@ -1,8 +1,8 @@
 -- What the text of a file comes to: the named netlist that it denotes, or why it denotes none (this project's own).
 use Rattle.std.specs.Prelude.{ℕ, ◌<◌, ◌≤◌, Bool, false, List, length, Result, Ok, Err}
-use Rattle.bb_net.specs.Named.{Named}
-use Rattle.bb_parse.specs.Texts.{HasLexFault, HasParseFault}
-use Rattle.bb_elab.specs.Denotes.{ElaboratesTo}
+use Rattle.bb_base.specs.Named.{Named}
+use Rattle.bb_grammar.specs.Texts.{HasLexFault, HasParseFault}
+use Rattle.bb_meaning.specs.Denotes.{ElaboratesTo}
 use Rattle.bb_say.specs.declared.refusal.TextRefusal.{TextRefusal}
 use Rattle.bb_say.specs.declared.refusal.TextRefusal.TheVariants.{TooLong, Lex, Parse, Elab}
 

@@ -1,9 +1,9 @@
 //! Laws about texts, as contracts of functions that do nothing.
 
 ghost use Rattle.std.specs.Prelude.{◌≡◌, ℕ, Bool, List, Result, Ok};
-ghost use Rattle.bb_net.specs.Named.{Named, IsNamed};
+ghost use Rattle.bb_base.specs.Named.{Named, IsNamed};
 ghost use Rattle.bb_fault.specs.declared.fault.ElabFault.{ElabFault as ElabValue};
-ghost use Rattle.bb_elab.specs.Denotes.{ElaboratesTo};
+ghost use Rattle.bb_meaning.specs.Denotes.{ElaboratesTo};
 ghost use Rattle.bb_say.specs.declared.refusal.TextRefusal.{TextRefusal as TextRefusalValue};
 ghost use Rattle.bb_named.specs.Texts.{ComesTo};
 

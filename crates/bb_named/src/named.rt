@@ -3,24 +3,25 @@
 ghost use Rattle.std.specs.Prelude.{◌≡◌, ◌≤◌, ℕ, false, List, length, IfOk, IsErrOf, Ok, Err};
 ghost use Rattle.bb_edge.specs.Causes.{Rose};
 ghost use Rattle.bb_edge.specs.Told.{Held};
-ghost use Rattle.bb_lex.specs.declared.fault.LexFault.{LexFault as LexValue};
-ghost use Rattle.bb_netlist.specs.Order.{IsOrder};
+ghost use Rattle.bb_base.specs.declared.lex_fault.LexFault.{LexFault as LexValue};
+ghost use Rattle.bb_base.specs.Order.{IsOrder};
 ghost use Rattle.bb_parse.specs.declared.fault.ParseFault.{ParseFault as ParseValue};
 ghost use Rattle.bb_fault.specs.declared.fault.ElabFault.{ElabFault as ElabValue};
 ghost use Rattle.bb_base.specs.Variables.{bit_count, limit_of};
-ghost use Rattle.bb_parse.specs.Texts.{HasLexFault, HasParseFault};
-ghost use Rattle.bb_elab.specs.Denotes.{ElaboratesTo};
-ghost use Rattle.bb_ready.specs.Ready.{IsReady};
+ghost use Rattle.bb_grammar.specs.Texts.{HasLexFault, HasParseFault};
+ghost use Rattle.bb_meaning.specs.Denotes.{ElaboratesTo};
+ghost use Rattle.bb_named.specs.Ready.{IsReady};
 ghost use Rattle.bb_say.specs.declared.refusal.TextRefusal.{TextRefusal as TextRefusalValue};
 ghost use Rattle.bb_named.specs.Texts.{IsTextRefused};
 
 use crate::fault::NamedFault;
+use crate::read_netlists_are_ready;
 use bb_edge::Store;
 use bb_elab::elaborate;
 use bb_fault::ElabFault;
-use bb_net::{Named, Order};
+use bb_net::Named;
+use bb_netlist::Order;
 use bb_read::{ReadFault, module_in, read_whole};
-use bb_ready::read_netlists_are_ready;
 use std::alloc::Global;
 
 /// The most bytes of the input.

@@ -1,10 +1,10 @@
 -- Runs under old names, carried to new ones.
 use Rattle.std.proofs.Common.{◌≡◌, List, [], ◌∷◌, Bool, map, sym, ap, ◌∙◌, subst}
 use Rattle.std.specs.List.{AllByRecursion}
-use Rattle.bb_netlist.specs.Net.{Gate, Flop, Netlist, renamed, renamed_gate, renamed_flop}
-use Rattle.bb_netlist.specs.Run.{IsRunBy, SettlesBy, MeetsBy, next_states}
+use Rattle.bb_base.specs.Net.{Gate, Flop, Netlist, renamed, renamed_gate, renamed_flop}
+use Rattle.bb_base.specs.Run.{IsRunBy, SettlesBy, MeetsBy, next_states}
 use Rattle.bb_base.proofs.Lists.{both_map, map_alike}
-use Rattle.bb_netlist.proofs.Renamed.{Back, FindsAll, meaning_of}
+use Rattle.bb_base.proofs.Renamed.{Back, FindsAll, meaning_of}
 
 -- values under the old names, carried to the new ones
 pub run_named_by : {M N : Type 0} (f : M → N) (g : N → M) (gives : Gate N → List Bool → Bool) (n : Netlist M) → FindsAll f g n → (s : List Bool) (is : List (List Bool)) (ws : List (M → Bool))

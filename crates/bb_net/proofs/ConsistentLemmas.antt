@@ -7,12 +7,12 @@ use Rattle.std.specs.List.{flat_map, list_any}
 use Rattle.std.specs.Option.{ForSome}
 use Rattle.bb_base.specs.declared.operator.Op.{Op}
 use Rattle.bb_base.specs.declared.variable.BitName.{BitName}
-use Rattle.bb_netlist.specs.Net.{Gate, Flop, driven, reads, HasArity}
+use Rattle.bb_base.specs.Net.{Gate, Flop, driven, reads, HasArity}
 use Rattle.bb_base.specs.Operators.{IsArity}
 use Rattle.bb_base.specs.Name.{IsName}
 use Rattle.bb_base.specs.Variables.{IsEntry, IsBit, bit_at, bit_eq}
-use Rattle.bb_net.specs.Named.{Named, IsConsistent}
-use Rattle.bb_net.specs.Building.{started, with_net, with_gate, with_flop}
+use Rattle.bb_base.specs.Named.{Named, IsConsistent}
+use Rattle.bb_base.specs.Building.{started, with_net, with_gate, with_flop}
 use Rattle.bb_base.proofs.Lists.{in_front, in_back, map_join, same_map_at}
 
 -- nothing stands yet

@@ -8,8 +8,8 @@ use Rattle.std.proofs.lemmas.List.Sums.{sum_by_more, sum_by-take-le, sum_by-cons
 use Rattle.std.proofs.lemmas.Option.{slice_get_within, get_or_from_slice_get}
 use Rattle.bb_base.specs.declared.variable.BitName.{BitName}
 use Rattle.bb_base.specs.Variables.{Entry, IsBit, range_width, bit_at, bit_count}
-use Rattle.bb_netlist.specs.Net.{Gate, Flop}
-use Rattle.bb_net.specs.Named.{Named, IsNamed}
+use Rattle.bb_base.specs.Net.{Gate, Flop}
+use Rattle.bb_base.specs.Named.{Named, IsNamed}
 use Rattle.bb_base.proofs.Lists.{length_map, all_map_back}
 use Rattle.bb_base.proofs.Distinct.{few_distinct}
 

@@ -3,9 +3,9 @@ use Rattle.std.proofs.Common.{arith, ◌≡◌, ℕ, ◌<◌, List, length, map,
 use Rattle.std.specs.Option.{option_map, ForSome}
 use Rattle.bb_base.specs.declared.variable.BitName.{BitName}
 use Rattle.bb_base.specs.Variables.{Bit, bit_of}
-use Rattle.bb_netlist.specs.Net.{Gate, renamed, renamed_gate, driven}
-use Rattle.bb_netlist.specs.Run.{IsRunBy, at}
-use Rattle.bb_net.specs.Named.{Named, IsNamed, IsClock, Design, design_of, net_text}
+use Rattle.bb_base.specs.Net.{Gate, renamed, renamed_gate, driven}
+use Rattle.bb_base.specs.Run.{IsRunBy, at}
+use Rattle.bb_base.specs.Named.{Named, IsNamed, IsClock, Design, design_of, net_text}
 use Rattle.bb_net.specs.Sites.{Site, Sited, sited, site_of, site_of_bit}
 use Rattle.bb_net.proofs.CarriedRuns.{run_named_by}
 use Rattle.bb_net.proofs.Renaming.{OfAllNets, nets_below, renamed_twice, renamed_alike, OneToOne, names_distinct, net_named, found, finds_all, at_map}

@@ -6,9 +6,9 @@ use Rattle.std.specs.List.{IsDistinct}
 use Rattle.std.specs.Map.{keys_of}
 use Rattle.std.specs.Str.{bytes_eq}
 use Rattle.bb_base.specs.declared.variable.BitName.{BitName}
-use Rattle.bb_netlist.specs.Net.{driven, IsNetlist}
+use Rattle.bb_base.specs.Net.{driven, IsNetlist}
 use Rattle.bb_base.specs.Variables.{Entry, bit_eq}
-use Rattle.bb_net.specs.Named.{Named, IsConsistent, IsNamed}
+use Rattle.bb_base.specs.Named.{Named, IsConsistent, IsNamed}
 use Rattle.bb_base.proofs.BitLemmas.{same_bits, bit_eq_itself}
 use Rattle.std.proofs.Math.ListN.{get_or-map}
 use Rattle.bb_base.proofs.Lists.{length_map}

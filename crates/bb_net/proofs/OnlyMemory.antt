@@ -1,8 +1,8 @@
 -- A builder's fault that is no refusal is want of memory, call by call.
 use Rattle.std.proofs.Common.{◌≡◌, ℕ, refl}
-use Rattle.bb_netlist.specs.Faults.{IsGateFault, IsVariableFault, IsNetCallFault, IsFinishFault}
-use Rattle.bb_netlist.specs.declared.fault.NetFault.{NetFault}
-use Rattle.bb_netlist.specs.declared.fault.NetFault.TheVariants.{Redeclared, TwoDrivers, Undriven, BadArity, TooMany, NoMemory}
+use Rattle.bb_base.specs.Faults.{IsGateFault, IsVariableFault, IsNetCallFault, IsFinishFault}
+use Rattle.bb_base.specs.declared.fault.NetFault.{NetFault}
+use Rattle.bb_base.specs.declared.fault.NetFault.TheVariants.{Redeclared, TwoDrivers, Undriven, BadArity, TooMany, NoMemory}
 
 -- no arity is wrong
 pub gate_memory : (fault : NetFault) → IsGateFault fault → ((gate : ℕ) → fault ≡ BadArity gate → ⊥) → fault ≡ NoMemory

@@ -7,7 +7,7 @@ use Rattle.std.specs.List.{AllByRecursion, range_with_len, list_any}
 use Rattle.bb_base.specs.declared.variable.Variable.{Variable}
 use Rattle.bb_base.specs.declared.variable.BitName.{BitName}
 use Rattle.bb_base.specs.Variables.{is_port, range_width, places_but, bit_at, bit_eq}
-use Rattle.bb_net.specs.Building.{port_bits, IsEarlier}
+use Rattle.bb_base.specs.Building.{port_bits, IsEarlier}
 use Rattle.bb_base.proofs.Lists.{map_join, length_map}
 
 -- a range with one more number

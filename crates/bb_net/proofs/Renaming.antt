@@ -2,14 +2,14 @@
 use Rattle.std.proofs.Common.{arith, ◌≡◌, ℕ, zero, suc, ◌<◌, List, [], ◌∷◌, ◌++◌, length, map, Bool, refl, ◌∙◌, Decides}
 use Rattle.std.proofs.lemmas.List.Elements.{recursion_from_All}
 use Rattle.std.specs.List.{AllByRecursion, flat_map}
-use Rattle.bb_netlist.specs.Net.{Gate, Flop, Netlist, IsNetlist, driven, reads, renamed, renamed_gate, renamed_flop}
-use Rattle.bb_netlist.specs.Run.{at}
+use Rattle.bb_base.specs.Net.{Gate, Flop, Netlist, IsNetlist, driven, reads, renamed, renamed_gate, renamed_flop}
+use Rattle.bb_base.specs.Run.{at}
 use Rattle.bb_base.proofs.Lists.{all_front, all_back, all_map, all_parts, map_twice, same_map, same_map_at}
 use Rattle.bb_base.proofs.Contained.{both_all, to_all, of_all}
-use Rattle.bb_netlist.proofs.Renamed.{Back, FindsAll}
+use Rattle.bb_base.proofs.Renamed.{Back, FindsAll}
 use Rattle.bb_base.proofs.Distinct.{Distinct, distinct_map, find_in, found_all}
-use Rattle.bb_netlist.proofs.TimesLemmas.{standing}
-use Rattle.bb_netlist.proofs.GateLemmas.{driven_distinct}
+use Rattle.bb_base.proofs.TimesLemmas.{standing}
+use Rattle.bb_base.proofs.GateLemmas.{driven_distinct}
 
 -- a fact of all nets that stand in a netlist
 pub record OfAllNets {N : Type 0} (P : N → Type 0) (n : Netlist N) : Type 0 where

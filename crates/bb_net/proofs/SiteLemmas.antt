@@ -8,7 +8,7 @@ use Rattle.std.specs.Option.{option_map}
 use Rattle.std.specs.Str.{bytes_eq}
 use Rattle.bb_base.specs.declared.variable.BitName.{BitName}
 use Rattle.bb_base.specs.Variables.{Entry, Bit, IsBit, bit_in, bit_of, bit_at, index_at, range_width}
-use Rattle.bb_net.specs.Named.{Named, IsNamed, net_text, name_of_net}
+use Rattle.bb_base.specs.Named.{Named, IsNamed, net_text, name_of_net}
 use Rattle.bb_net.specs.Sites.{Site, site_in, site_of_bit, site_of}
 use Rattle.bb_base.proofs.Distinct.{one_place}
 

@@ -11,13 +11,13 @@ use Rattle.bb_base.specs.declared.variable.Role.{Role}
 use Rattle.bb_base.specs.declared.variable.Role.TheVariants.{Input, Output, Wire}
 use Rattle.bb_base.specs.declared.variable.Variable.{Variable}
 use Rattle.bb_base.specs.declared.variable.BitName.{BitName}
-use Rattle.bb_netlist.specs.Net.{times, driven, reads}
+use Rattle.bb_base.specs.Net.{times, driven, reads}
 use Rattle.bb_base.specs.Name.{IsName}
 use Rattle.bb_base.specs.Variables.{Entry, IsEntry, IsBit, IsRange, is_input, is_output, is_port, range_width, clock_place, places_but, bit_at, data_bits, role_bits, ports_of}
-use Rattle.bb_net.specs.Named.{Named, name_of_net, IsClock, IsConsistent}
-use Rattle.bb_net.specs.Building.{clock_with, port_bits, new_nets, with_variable, MayClock}
+use Rattle.bb_base.specs.Named.{Named, name_of_net, IsClock, IsConsistent}
+use Rattle.bb_base.specs.Building.{clock_with, port_bits, new_nets, with_variable, MayClock}
 use Rattle.bb_base.proofs.Lists.{in_front, map_join, get_front, get_back}
-use Rattle.bb_netlist.proofs.TimesLemmas.{times_join, times_past, times_range, times_range_before}
+use Rattle.bb_base.proofs.TimesLemmas.{times_join, times_past, times_range, times_range_before}
 use Rattle.bb_net.proofs.ConsistentLemmas.{names_kept, first}
 
 -- what holds of all items holds of the one at a place

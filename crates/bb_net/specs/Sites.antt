@@ -3,8 +3,8 @@ use Rattle.std.specs.Prelude.{ℕ, List, [], Option, None, Some, slice_get}
 use Rattle.std.specs.Option.{option_map}
 use Rattle.bb_base.specs.declared.variable.BitName.{BitName}
 use Rattle.bb_base.specs.Variables.{Entry}
-use Rattle.bb_netlist.specs.Net.{Netlist, renamed}
-use Rattle.bb_net.specs.Named.{Named, name_of_net}
+use Rattle.bb_base.specs.Net.{Netlist, renamed}
+use Rattle.bb_base.specs.Named.{Named, name_of_net}
 
 -- where a bit stands: in the variable of this name, at this place from the left
 pub record Site : Type 0 where

@@ -1,17 +1,19 @@
 ghost use Rattle.std.specs.Prelude.{◌≡◌, ◌≢◌, ◌↔◌, ◌<◌, ◌≤◌, ◌+◌, ◌-◌, ◌^◌, ◌++◌, ◌∷◌, [], ℕ, length, map, take, All, IfOk, OnOk, OnErr, IfErr, IsErrOf, IfSome, IsSome, None, Some, slice_get, true, IsTrue, if◌then◌else◌};
 ghost use Rattle.std.specs.Option.{ForSome};
 ghost use Rattle.std.specs.List.{range_with_len};
-ghost use Rattle.bb_netlist.specs.Net.{driven, times};
+ghost use Rattle.bb_base.specs.Net.{driven, times};
 ghost use Rattle.bb_base.specs.Operators.{IsArity};
 ghost use Rattle.bb_base.specs.Variables.{IsBit, IsRange, range_width, is_input, is_output, is_port, bit_at, places_but};
-ghost use Rattle.bb_net.specs.Named.{lookup_of, IsNamed, IsConsistent};
-ghost use Rattle.bb_netlist.specs.Faults.{IsGateFault, IsVariableFault, IsNetCallFault, IsFinishFault};
-ghost use Rattle.bb_net.specs.Building.{started, net_limit, port_bits, new_nets, with_variable, MayClock, with_net, with_gate, with_flop, clock_with, IsTooMany, IsEarlier};
+ghost use Rattle.bb_base.specs.Named.{lookup_of, IsNamed, IsConsistent};
+ghost use Rattle.bb_base.specs.Faults.{IsGateFault, IsVariableFault, IsNetCallFault, IsFinishFault};
+ghost use Rattle.bb_base.specs.Building.{started, net_limit, port_bits, new_nets, with_variable, MayClock, with_net, with_gate, with_flop, clock_with, IsTooMany, IsEarlier};
 ghost use Rattle.bb_base.specs.Firsts.{IsFirst};
 
 use crate::Named;
-use bb_base::{BitName, Name, Op, Role, Variable, has_arity, is_port_role, width_of};
-use bb_netlist::{Flop, Gate, NetFault, NetId, Netlist};
+use bb_base::{
+    BitName, Flop, Gate, Name, NetFault, NetId, Netlist, Op, Role, Variable, has_arity,
+    is_port_role, width_of,
+};
 use indexmap::{IndexMap, IndexSet};
 use smallvec::SmallVec;
 use std::alloc::{AllocError, Global};
@@ -37,8 +39,8 @@ pub struct Builder {
 
 impl Model for Builder {
     ghost use Rattle.std.specs.Prelude.{◌≡◌, ◌<◌, ◌≤◌, ◌^◌, length};
-    ghost use Rattle.bb_net.specs.Named.{Named as NamedValue, IsConsistent};
-    ghost use Rattle.bb_net.specs.Building.{net_limit};
+    ghost use Rattle.bb_base.specs.Named.{Named as NamedValue, IsConsistent};
+    ghost use Rattle.bb_base.specs.Building.{net_limit};
     ghost use Rattle.bb_base.specs.Variables.{ports_of};
 
     ghost Value = { NamedValue };

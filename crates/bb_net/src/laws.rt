@@ -1,9 +1,9 @@
 //! Laws about named netlists, as contracts of functions without a body.
 
 ghost use Rattle.std.specs.Prelude.{◌≡◌, ◌↔◌, ◌<◌, ◌≤◌, ℕ, List, Bool, map, length};
-ghost use Rattle.bb_netlist.specs.Net.{Gate as GateValue, Netlist, renamed, renamed_gate};
-ghost use Rattle.bb_netlist.specs.Run.{IsRunBy, at};
-ghost use Rattle.bb_net.specs.Named.{Named as NamedValue, IsNamed, design_of, net_text};
+ghost use Rattle.bb_base.specs.Net.{Gate as GateValue, Netlist, renamed, renamed_gate};
+ghost use Rattle.bb_base.specs.Run.{IsRunBy, at};
+ghost use Rattle.bb_base.specs.Named.{Named as NamedValue, IsNamed, design_of, net_text};
 ghost use Rattle.bb_base.specs.Variables.{Entry, bit_count};
 ghost use Rattle.bb_net.specs.Sites.{Site, sited, site_of};
 

@@ -4,19 +4,14 @@
 //! - A builder gives the netlist of its calls, or names the first thing that is wrong.
 //! - Its nets differ by site (their variable's name, and their place from the left whatever the written range is), and it has the same runs by sites.
 //!
-//! `specs/Named.antt` says what names are, `specs/Sites.antt` what sites are, `specs/Building.antt` what the calls of a builder make. What a netlist is, what its runs
-//! are, and what an order is stand in `bb_netlist`.
+//! `specs/Sites.antt` says what sites are. What names are, what the calls of a builder make, what a netlist is, and what its runs and an
+//! order are stand in `bb_base`.
 #![tactic(auto)]
 
 mod builder;
 mod laws;
 mod named;
 
-pub use bb_base::{BitName, Name, Op, Role, Variable};
-pub use bb_netlist::{
-    Driver, Flop, Gate, NetFault, NetId, Netlist, Order, OrderFault, find_order,
-    orders_follow_drivers, runs_by_name,
-};
 pub use builder::Builder;
 pub use laws::{nets_are_bits, runs_by_site, sites_are_designs, sites_differ};
 pub use named::Named;

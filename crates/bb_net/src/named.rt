@@ -1,10 +1,9 @@
 ghost use Rattle.std.specs.Prelude.{◌≡◌, ◌<◌, ◌≤◌, ◌↔◌, ◌^◌, length, map, Some, None, IfSome, IsNone, Contains, Option, slice_get, IsSome};
-ghost use Rattle.bb_net.specs.Named.{lookup_of, IsNamed};
-ghost use Rattle.bb_net.specs.Building.{find_of, net_limit};
+ghost use Rattle.bb_base.specs.Named.{lookup_of, IsNamed};
+ghost use Rattle.bb_base.specs.Building.{find_of, net_limit};
 ghost use Rattle.bb_base.specs.Variables.{ports_of};
 
-use bb_base::{BitName, Name, Variable};
-use bb_netlist::{NetId, Netlist};
+use bb_base::{BitName, Name, NetId, Netlist, Variable};
 use indexmap::{IndexMap, IndexSet};
 use std::marker::Model;
 
@@ -23,8 +22,8 @@ pub struct Named {
 
 impl Model for Named {
     ghost use Rattle.std.specs.Prelude.{◌≡◌, ◌<◌, ◌≤◌, ◌^◌, length};
-    ghost use Rattle.bb_net.specs.Named.{Named as NamedValue, IsNamed};
-    ghost use Rattle.bb_net.specs.Building.{net_limit};
+    ghost use Rattle.bb_base.specs.Named.{Named as NamedValue, IsNamed};
+    ghost use Rattle.bb_base.specs.Building.{net_limit};
     ghost use Rattle.bb_base.specs.Variables.{ports_of};
 
     ghost Value = { NamedValue };

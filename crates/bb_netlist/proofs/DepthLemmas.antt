@@ -5,8 +5,8 @@ use Rattle.std.proofs.lemmas.Bool.Decides.{nat_tests}
 use Rattle.std.proofs.lemmas.List.Sums.{sum_by-cons}
 use Rattle.std.specs.Prelude.{Option, if◌then◌else◌}
 use Rattle.std.specs.List.{AllByRecursion}
-use Rattle.bb_netlist.specs.Net.{times}
-use Rattle.bb_netlist.specs.Levels.{higher, highest, depth_in, is_open, open_count}
+use Rattle.bb_base.specs.Net.{times}
+use Rattle.bb_base.specs.Levels.{higher, highest, depth_in, is_open, open_count}
 
 -- the depths with that of one net set
 abbrev pub with_depth : (ℕ → Option ℕ) → ℕ → ℕ → ℕ → Option ℕ

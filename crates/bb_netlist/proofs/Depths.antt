@@ -4,10 +4,10 @@ use Rattle.std.proofs.lemmas.Bool.Decides.{nat_tests}
 use Rattle.std.proofs.lemmas.List.Elements.{recursion_from_All}
 use Rattle.std.specs.Prelude.{Option, Some, None, nat_lt, if◌then◌else◌}
 use Rattle.std.specs.List.{list_all, AllByRecursion}
-use Rattle.bb_netlist.specs.Net.{Gate}
-use Rattle.bb_netlist.specs.Order.{drivers, is_within, is_empty, HasLevel, IsStuck}
+use Rattle.bb_base.specs.Net.{Gate}
+use Rattle.bb_base.specs.Order.{drivers, is_within, is_empty, HasLevel, IsStuck}
 use Rattle.bb_base.proofs.BooleanLemmas.{and_same, and_true}
-use Rattle.bb_netlist.specs.Levels.{higher, highest, next_depth, MeetsDepth, AreDepths, AreGates}
+use Rattle.bb_base.specs.Levels.{higher, highest, next_depth, MeetsDepth, AreDepths, AreGates}
 
 -- the depth is one, and at most k
 abbrev pub below : ℕ → Option ℕ → Bool

@@ -5,9 +5,9 @@ use Rattle.std.proofs.lemmas.Bool.Decides.{nat_tests}
 use Rattle.std.proofs.lemmas.Option.{gets}
 use Rattle.std.specs.Prelude.{slice_index_or}
 use Rattle.std.proofs.lemmas.List.Sums.{count_by_more_yes, count_by_more_no, sum_by-take-le}
-use Rattle.bb_netlist.specs.Net.{Gate, times}
-use Rattle.bb_netlist.specs.Levels.{inputs_at}
-use Rattle.bb_netlist.proofs.TimesLemmas.{times_join, times_head}
+use Rattle.bb_base.specs.Net.{Gate, times}
+use Rattle.bb_base.specs.Levels.{inputs_at}
+use Rattle.bb_base.proofs.TimesLemmas.{times_join, times_head}
 
 -- one more reader of a net
 pub times_more : (h number : ℕ) (readers : List ℕ) → times h (readers ++ number ∷ []) ≡ times h readers + cond (number == h) 1 0

@@ -1,11 +1,7 @@
-pub mod TimesLemmas
-pub mod Renamed
-pub mod DriverLemmas
 pub mod LevelLemmas
 pub mod DepthLemmas
 pub mod WorkLemmas
 pub mod Depths
 pub mod OrderLemmas
-pub mod GateLemmas
 pub mod WalkLemmas
-pub mod CycleLemmas
+pub mod Sorting

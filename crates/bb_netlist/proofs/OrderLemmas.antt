@@ -17,9 +17,9 @@ use Rattle.std.specs.Option.{unwrap_or}
 use Rattle.std.specs.List.{range_with_len, AllByRecursion}
 use Rattle.std.specs.List.Sorted.{IsPermutation, IsSorted}
 use Rattle.std.specs.Ordering.{nat_cmp}
-use Rattle.bb_netlist.specs.Net.{Gate}
-use Rattle.bb_netlist.specs.Order.{HasLevel, ComesBefore, IsOrder, IsStuck, IsFirstStuck}
-use Rattle.bb_netlist.specs.Levels.{highest, next_depth, depth_in, AreGates, AreDepths, MeetsDepth, is_open, open_count, IsFirstOpen, number_of, key_at, number_in}
+use Rattle.bb_base.specs.Net.{Gate}
+use Rattle.bb_base.specs.Order.{HasLevel, ComesBefore, IsOrder, IsStuck, IsFirstStuck}
+use Rattle.bb_base.specs.Levels.{highest, next_depth, depth_in, AreGates, AreDepths, MeetsDepth, is_open, open_count, IsFirstOpen, number_of, key_at, number_in}
 use Rattle.bb_base.proofs.Lists.{get_some, length_map}
 use Rattle.bb_base.proofs.BitLemmas.{contains_at}
 use Rattle.bb_netlist.proofs.DepthLemmas.{closed_highest}

@@ -6,10 +6,10 @@ use Rattle.std.proofs.lemmas.List.Sums.{sum_by-set}
 use Rattle.std.proofs.lemmas.List.{length-set, get_or_default}
 use Rattle.std.proofs.lemmas.Option.{slice_get_within, get_or_from_slice_get, slice_get-get_or}
 use Rattle.std.specs.Prelude.{Option, AllPairs, count_by}
-use Rattle.bb_netlist.specs.Net.{Gate}
+use Rattle.bb_base.specs.Net.{Gate}
 use Rattle.bb_base.specs.Firsts.{IsFirst}
-use Rattle.bb_netlist.specs.Order.{LeadsTo, BeginsWith, IsFirstStuck, IsLeastStuck, IsLoop, IsCycle, Reads, IsStuck}
-use Rattle.bb_netlist.specs.Levels.{depth_in, is_open, AreGates, AreDepths}
+use Rattle.bb_base.specs.Order.{LeadsTo, BeginsWith, IsFirstStuck, IsLeastStuck, IsLoop, IsCycle, Reads, IsStuck}
+use Rattle.bb_base.specs.Levels.{depth_in, is_open, AreGates, AreDepths}
 use Rattle.bb_base.proofs.Lists.{get_front}
 use Rattle.bb_base.proofs.BitLemmas.{contains_at}
 use Rattle.bb_netlist.proofs.DepthLemmas.{depth_set, depth_there, depth_apart, with_depth}

@@ -8,9 +8,9 @@ use Rattle.std.proofs.lemmas.List.Elements.{recursion_from_All}
 use Rattle.std.proofs.lemmas.Option.{gets, slice_get_within, get_or_from_slice_get}
 use Rattle.std.specs.Prelude.{Option, count_by, All, nat_lt, ◌||◌}
 use Rattle.std.specs.List.{AllByRecursion, list_any}
-use Rattle.bb_netlist.specs.Net.{Gate, times}
-use Rattle.bb_netlist.specs.Order.{drivers}
-use Rattle.bb_netlist.specs.Levels.{highest, next_depth, MeetsDepth, depth_in, is_open, open_count, work, due_in, due, IsWork, AreDepths, AreGates, inputs_at, inputs_in}
+use Rattle.bb_base.specs.Net.{Gate, times}
+use Rattle.bb_base.specs.Order.{drivers}
+use Rattle.bb_base.specs.Levels.{highest, next_depth, MeetsDepth, depth_in, is_open, open_count, work, due_in, due, IsWork, AreDepths, AreGates, inputs_at, inputs_in}
 use Rattle.bb_netlist.proofs.LevelLemmas.{times_more, times_here}
 use Rattle.bb_netlist.proofs.DepthLemmas.{with_depth, open_split, highest_stays, highest_low, highest_closed, open_highest, depth_set, depth_there, depth_apart}
 

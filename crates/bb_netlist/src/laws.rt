@@ -1,9 +1,9 @@
 //! Laws about netlists, as contracts of functions without a body.
 
 ghost use Rattle.std.specs.Prelude.{◌≡◌, ◌↔◌, ◌<◌, ℕ, List, Bool, map, Some, slice_get};
-ghost use Rattle.bb_netlist.specs.Net.{Gate as GateValue, Netlist, renamed, renamed_gate};
-ghost use Rattle.bb_netlist.specs.Order.{IsOrder, IsCycle, ReadsGate};
-ghost use Rattle.bb_netlist.specs.Run.{IsRun, IsRunBy};
+ghost use Rattle.bb_base.specs.Net.{Gate as GateValue, Netlist, renamed, renamed_gate};
+ghost use Rattle.bb_base.specs.Order.{IsOrder, IsCycle, ReadsGate};
+ghost use Rattle.bb_base.specs.Run.{IsRun, IsRunBy};
 ghost use Rattle.bb_base.specs.Variables.{Bit};
 
 /// A netlist of numbered nets has the same runs under any names for them, whatever its gates mean.

@@ -2,10 +2,10 @@
 
 ghost use Rattle.std.specs.Prelude.{◌≡◌, ◌+◌, ◌<◌, ℕ, List, length, All, Some, None, slice_get, slice_index, slice_index_or, [], ◌∷◌, ◌++◌, ◌^◌, IfOk, OnOk, if◌then◌else◌, ◌==◌, ◌&&◌, ◌≤◌, not, count_by, nat_lt};
 ghost use Rattle.std.specs.List.{list_any};
-ghost use Rattle.bb_netlist.specs.Net.{Gate as GateValue, times};
-ghost use Rattle.bb_netlist.specs.Levels.{highest, depth_in, open_count, is_open, inputs_at, work, IsWork, AreGates, AreReaders, AreDepths};
+ghost use Rattle.bb_base.specs.Net.{Gate as GateValue, times};
+ghost use Rattle.bb_base.specs.Levels.{highest, depth_in, open_count, is_open, inputs_at, work, IsWork, AreGates, AreReaders, AreDepths};
 
-use crate::{Gate, NetId};
+use bb_base::{Gate, NetId};
 use smallvec::SmallVec;
 use std::alloc::{AllocError, Global};
 use std::marker::Model;

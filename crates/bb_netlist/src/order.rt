@@ -3,13 +3,13 @@
 //! Levels are found by a worklist: a gate is taken once all of its inputs have their depth (Kahn, 1962).
 
 ghost use Rattle.std.specs.Prelude.{◌≡◌, ◌≢◌, ◌<◌, ◌^◌, ℕ, length, map, All, Some, None, slice_get, slice_index, IfOk, IsErrOf};
-ghost use Rattle.bb_netlist.specs.Net.{Gate as GateValue, driven};
+ghost use Rattle.bb_base.specs.Net.{Gate as GateValue, driven};
 ghost use Rattle.bb_base.specs.Firsts.{IsFirst};
-ghost use Rattle.bb_netlist.specs.Order.{IsOrder, IsFirstStuck, IsLoop, IsCycle};
-ghost use Rattle.bb_netlist.specs.Levels.{depth_in, open_count, AreGates, AreDepths, IsFirstOpen, key_at, number_in};
+ghost use Rattle.bb_base.specs.Order.{IsOrder, IsFirstStuck, IsLoop, IsCycle};
+ghost use Rattle.bb_base.specs.Levels.{depth_in, open_count, AreGates, AreDepths, IsFirstOpen, key_at, number_in};
 
 use crate::levels::depths_of;
-use crate::{Driver, Gate, NetId, Netlist};
+use bb_base::{Driver, Gate, NetId, Netlist};
 use std::alloc::{AllocError, Global};
 use std::marker::Model;
 

@@ -1,8 +1,8 @@
 -- A valid plan has few enough cells, registers and sessions for numbers of 32 bits.
 use Rattle.std.proofs.Common.{arith, ◌≡◌, ℕ, ◌≤◌}
-use Rattle.bb_netlist.specs.Net.{Netlist}
-use Rattle.bb_rules.specs.Plan.{PlanValue}
-use Rattle.bb_rules.specs.Valid.{IsValidPlan}
+use Rattle.bb_base.specs.Net.{Netlist}
+use Rattle.bb_terms.specs.Plan.{PlanValue}
+use Rattle.bb_terms.specs.Valid.{IsValidPlan}
 use Rattle.bb_written.proofs.Few as counts
 use Rattle.bb_normal.proofs.Numbered.{AreFew}
 

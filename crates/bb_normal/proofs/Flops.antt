@@ -3,15 +3,15 @@ use Rattle.std.proofs.Common.{arith, ◌≡◌, ℕ, ◌==◌, ◌&&◌, true, a
 use Rattle.std.proofs.lemmas.Bool.Decides.{nat_tests}
 use Rattle.std.proofs.lemmas.List.Folds.{list_any_at}
 use Rattle.std.specs.List.{list_any}
-use Rattle.bb_netlist.specs.Net.{Flop, Netlist, IsNetlist}
+use Rattle.bb_base.specs.Net.{Flop, Netlist, IsNetlist}
 use Rattle.bb_base.proofs.Contained.{to_all}
-use Rattle.bb_rules.specs.Kinds.{is_flop}
-use Rattle.bb_rules.specs.Lines.{d_of}
-use Rattle.bb_rules.specs.Plan.{PlanValue, chain}
-use Rattle.bb_rules.specs.Rules.{Holds, Served}
-use Rattle.bb_rules.specs.declared.plan.Cell.{Cell}
-use Rattle.bb_rules.proofs.NetLemmas.{d_is}
-use Rattle.bb_rules.proofs.StopLemmas.{gives_q}
+use Rattle.bb_terms.specs.Kinds.{is_flop}
+use Rattle.bb_terms.specs.Lines.{d_of}
+use Rattle.bb_terms.specs.Plan.{PlanValue, chain}
+use Rattle.bb_terms.specs.Rules.{Holds, Served}
+use Rattle.bb_terms.specs.declared.plan.Cell.{Cell}
+use Rattle.bb_terms.proofs.NetLemmas.{d_is}
+use Rattle.bb_terms.proofs.StopLemmas.{gives_q}
 use Rattle.bb_written.specs.Restricted.{KeepsFlops}
 
 pub keeps_flops : (a : Netlist ℕ) (p : PlanValue) → IsNetlist a → Holds a p Served → KeepsFlops a p

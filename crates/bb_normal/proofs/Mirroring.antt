@@ -1,13 +1,13 @@
 -- Traces and runs of a netlist whose drivers are the written one's, over symbols.
 use Rattle.std.proofs.Common.{◌≡◌, ℕ, suc, Bool, List, [], ◌∷◌, map, refl, sym, ap, subst, ◌∙◌, Contains}
 use Rattle.std.specs.List.{AllByRecursion}
-use Rattle.bb_netlist.specs.Net.{Gate, Flop, Netlist, renamed_gate, renamed_flop}
-use Rattle.bb_netlist.specs.Run.{IsTrace, IsRunBy, SettlesBy, MeetsBy, states, next_states, at}
-use Rattle.bb_net.specs.Named.{Named}
+use Rattle.bb_base.specs.Net.{Gate, Flop, Netlist, renamed_gate, renamed_flop}
+use Rattle.bb_base.specs.Run.{IsTrace, IsRunBy, SettlesBy, MeetsBy, states, next_states, at}
+use Rattle.bb_base.specs.Named.{Named}
 use Rattle.bb_net.specs.Sites.{Site, sited}
 use Rattle.bb_base.proofs.Contained.{of_all, to_all, each_same}
 use Rattle.bb_base.proofs.Lists.{all_map, map_twice}
-use Rattle.bb_rules.specs.Plan.{PlanValue}
+use Rattle.bb_terms.specs.Plan.{PlanValue}
 use Rattle.bb_written.specs.Written.{wire_site, written_netlist, written}
 use Rattle.bb_normal.specs.Mirrors.{Mirrors}
 

@@ -3,18 +3,18 @@ use Rattle.std.proofs.Common.{arith, ◌≡◌, ℕ, suc, ◌<◌, Bool, false, 
 use Rattle.std.specs.List.{AllByRecursion}
 use Rattle.std.proofs.lemmas.List.Elements.{recursion_from_All}
 use Rattle.std.proofs.Math.Seq.{take-append_seam}
-use Rattle.bb_netlist.specs.Net.{Flop, Netlist, driven, renamed_flop}
-use Rattle.bb_netlist.specs.Order.{HasOrder}
-use Rattle.bb_netlist.specs.Run.{IsRun, states, at, by_op}
-use Rattle.bb_net.specs.Named.{Named, IsNamed}
+use Rattle.bb_base.specs.Net.{Flop, Netlist, driven, renamed_flop}
+use Rattle.bb_base.specs.Order.{HasOrder}
+use Rattle.bb_base.specs.Run.{IsRun, states, at, by_op}
+use Rattle.bb_base.specs.Named.{Named, IsNamed}
 use Rattle.bb_net.specs.Sites.{Site, sited, site_of}
 use Rattle.bb_net.proofs.Renaming.{at_map}
-use Rattle.bb_netlist.proofs.Renamed.{run_back, driven_renamed}
+use Rattle.bb_base.proofs.Renamed.{run_back, driven_renamed}
 use Rattle.bb_base.proofs.Lists.{map_twice, map_join, all_map_back, length_map}
 use Rattle.bb_runs.proofs.Valuations.{runs_agree}
-use Rattle.bb_rules.specs.Plan.{PlanValue}
-use Rattle.bb_ctl.specs.declared.wire.Wire.{Wire}
-use Rattle.bb_ctl.specs.declared.wire.Wire.TheVariants.{Kept, Test, Init, So, Done}
+use Rattle.bb_terms.specs.Plan.{PlanValue}
+use Rattle.bb_terms.specs.declared.wire.Wire.{Wire}
+use Rattle.bb_terms.specs.declared.wire.Wire.TheVariants.{Kept, Test, Init, So, Done}
 use Rattle.bb_written.specs.Written.{wire_site, written_netlist, written}
 use Rattle.bb_written.specs.Restricted.{original_bits, IsOutsideTest, first_state, RunsAsOriginal}
 use Rattle.bb_normal.specs.Mirrors.{Mirrors}

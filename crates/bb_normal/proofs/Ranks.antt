@@ -5,30 +5,30 @@ use Rattle.bb_base.specs.OwnNames.{is_reserved}
 use Rattle.bb_base.specs.Variables.{Entry}
 use Rattle.bb_base.proofs.Contained.{of_all, to_all, either, none_in, at_place, by_place, place_of, contains_at}
 use Rattle.bb_base.proofs.Lists.{all_join, all_parts}
-use Rattle.bb_netlist.specs.Net.{Gate, Flop, Netlist, driven, renamed_gate}
-use Rattle.bb_netlist.specs.Order.{HasRanks, FallsAlong, drivers, is_empty}
-use Rattle.bb_netlist.proofs.GateLemmas.{flop_undriven}
-use Rattle.bb_net.specs.Named.{Named, IsNamed, name_of_net}
+use Rattle.bb_base.specs.Net.{Gate, Flop, Netlist, driven, renamed_gate}
+use Rattle.bb_base.specs.Order.{HasRanks, FallsAlong, drivers, is_empty}
+use Rattle.bb_base.proofs.GateLemmas.{flop_undriven}
+use Rattle.bb_base.specs.Named.{Named, IsNamed, name_of_net}
 use Rattle.bb_net.specs.Sites.{Site, sited, site_of, site_in}
 use Rattle.bb_net.proofs.SiteLemmas.{site_eq, site_decides}
 use Rattle.bb_net.proofs.Renaming.{net_named, found}
 use Rattle.bb_net.proofs.Designs.{sites_one}
-use Rattle.bb_rules.specs.Plan.{PlanValue, chain}
-use Rattle.bb_rules.specs.Kinds.{is_flop}
-use Rattle.bb_rules.specs.Rules.{Holds, Kinds, IsQ, Fits, MayStand}
-use Rattle.bb_rules.specs.declared.kind.Kind.{Kind}
-use Rattle.bb_rules.specs.declared.kind.Kind.TheVariants.{Input, State, Split, Cut, Watch, Output}
-use Rattle.bb_rules.proofs.NetLemmas.{input_within, out_within, q_within}
-use Rattle.bb_netlist.proofs.CycleLemmas.{driver_there}
-use Rattle.bb_rules.specs.declared.plan.Cell.{Cell}
-use Rattle.bb_ctl.specs.declared.wire.Wire.{Wire}
-use Rattle.bb_ctl.specs.declared.wire.Wire.TheVariants.{Kept, Test, Init, So, Done, NotInit, NotTest, Go, NotGo, Parity, Low, Feed, Word, WordNext, Wrap, Phase, PhaseTurned, PhaseNext, Advance, NotAdvance, Ring, RingKept, RingMoved, RingOr, RingNext, NotOver, Live, NotPhase, Running, Shifting, On, Compacts, Latches, Takes, Off, Codes, Feedback, Signed, Carried, First, Line, Chain, Code, Coded, Next, InTest, InNormal, Read, Held}
-use Rattle.bb_ctl.specs.Wires.{symbol_name}
+use Rattle.bb_terms.specs.Plan.{PlanValue, chain}
+use Rattle.bb_terms.specs.Kinds.{is_flop}
+use Rattle.bb_terms.specs.Rules.{Holds, Kinds, IsQ, Fits, MayStand}
+use Rattle.bb_terms.specs.declared.kind.Kind.{Kind}
+use Rattle.bb_terms.specs.declared.kind.Kind.TheVariants.{Input, State, Split, Cut, Watch, Output}
+use Rattle.bb_terms.proofs.NetLemmas.{input_within, out_within, q_within}
+use Rattle.bb_base.proofs.CycleLemmas.{driver_there}
+use Rattle.bb_terms.specs.declared.plan.Cell.{Cell}
+use Rattle.bb_terms.specs.declared.wire.Wire.{Wire}
+use Rattle.bb_terms.specs.declared.wire.Wire.TheVariants.{Kept, Test, Init, So, Done, NotInit, NotTest, Go, NotGo, Parity, Low, Feed, Word, WordNext, Wrap, Phase, PhaseTurned, PhaseNext, Advance, NotAdvance, Ring, RingKept, RingMoved, RingOr, RingNext, NotOver, Live, NotPhase, Running, Shifting, On, Compacts, Latches, Takes, Off, Codes, Feedback, Signed, Carried, First, Line, Chain, Code, Coded, Next, InTest, InNormal, Read, Held}
+use Rattle.bb_terms.specs.Wires.{symbol_name}
 use Rattle.bb_written.specs.Written.{wire_site, written_netlist, written, scalar_site}
 use Rattle.bb_written.specs.Falling.{Falls, wire_rank, IsSettledFirst, HasNoLoop}
 use Rattle.bb_normal.specs.Mirrors.{Mirrors}
 use Rattle.bb_ctl.specs.OwnNames.{IsOwnName, HasOwnNames}
-use Rattle.bb_ctl.specs.Wires.{IsAdded}
+use Rattle.bb_terms.specs.Wires.{IsAdded}
 use Rattle.bb_ctl.proofs.Names.{names_differ, added_reserved, never_made}
 use Rattle.bb_normal.proofs.Numbered.{IsNumbered, RowNumbered}
 

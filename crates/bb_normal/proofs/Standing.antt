@@ -3,18 +3,18 @@ use Rattle.std.proofs.Common.{◌≡◌, ℕ, ◌<◌, ◌++◌, List, [], ◌�
 use Rattle.std.specs.List.{AllByRecursion, flat_map}
 use Rattle.bb_base.proofs.Contained.{by_place, contains_at, of_all}
 use Rattle.bb_base.proofs.Lists.{all_join, all_map_back}
-use Rattle.bb_netlist.specs.Net.{Gate, Flop, Netlist, IsNetlist, driven, reads}
-use Rattle.bb_net.specs.Named.{Named, IsNamed}
+use Rattle.bb_base.specs.Net.{Gate, Flop, Netlist, IsNetlist, driven, reads}
+use Rattle.bb_base.specs.Named.{Named, IsNamed}
 use Rattle.bb_net.proofs.Designs.{sites_one}
 use Rattle.bb_net.proofs.Renaming.{OfAllNets, nets_below}
-use Rattle.bb_ctl.specs.declared.wire.Wire.{Wire}
-use Rattle.bb_ctl.specs.declared.wire.Wire.TheVariants.{Kept}
-use Rattle.bb_rules.specs.Plan.{PlanValue, chain}
-use Rattle.bb_rules.specs.Rules.{Kinds, IsGateNet, IsQ, MayStand}
-use Rattle.bb_rules.specs.Valid.{IsValidPlan}
-use Rattle.bb_rules.specs.declared.kind.Kind.{Kind}
-use Rattle.bb_rules.specs.declared.kind.Kind.TheVariants.{Input, State, Split, Cut, Watch, Output}
-use Rattle.bb_rules.proofs.NetLemmas.{input_net_within, out_within, q_within}
+use Rattle.bb_terms.specs.declared.wire.Wire.{Wire}
+use Rattle.bb_terms.specs.declared.wire.Wire.TheVariants.{Kept}
+use Rattle.bb_terms.specs.Plan.{PlanValue, chain}
+use Rattle.bb_terms.specs.Rules.{Kinds, IsGateNet, IsQ, MayStand}
+use Rattle.bb_terms.specs.Valid.{IsValidPlan}
+use Rattle.bb_terms.specs.declared.kind.Kind.{Kind}
+use Rattle.bb_terms.specs.declared.kind.Kind.TheVariants.{Input, State, Split, Cut, Watch, Output}
+use Rattle.bb_terms.proofs.NetLemmas.{input_net_within, out_within, q_within}
 use Rattle.bb_written.specs.Written.{wire_site, written_netlist}
 use Rattle.bb_ctl.specs.OwnNames.{HasOwnNames}
 use Rattle.bb_normal.proofs.Few.{are_few}

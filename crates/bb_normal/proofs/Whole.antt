@@ -2,16 +2,16 @@
 use Rattle.std.proofs.Common.{◌≡◌, ℕ, length, ◌∙◌, subst}
 use Rattle.std.specs.List.{AllByRecursion}
 use Rattle.bb_base.proofs.Lists.{length_map}
-use Rattle.bb_netlist.specs.Net.{Netlist, renamed_flop}
-use Rattle.bb_netlist.specs.Order.{HasOrder}
-use Rattle.bb_netlist.specs.Run.{by_op}
-use Rattle.bb_net.specs.Named.{Named, IsNamed}
+use Rattle.bb_base.specs.Net.{Netlist, renamed_flop}
+use Rattle.bb_base.specs.Order.{HasOrder}
+use Rattle.bb_base.specs.Run.{by_op}
+use Rattle.bb_base.specs.Named.{Named, IsNamed}
 use Rattle.bb_net.specs.Sites.{sited, site_of}
 use Rattle.bb_runs.proofs.NamedRuns.{site_order, site_run}
 use Rattle.bb_runs.proofs.Ranks.{ranks_of_order}
-use Rattle.bb_rules.specs.Plan.{PlanValue}
-use Rattle.bb_rules.specs.Rules.{Kinds, Served}
-use Rattle.bb_rules.specs.Valid.{IsValidPlan}
+use Rattle.bb_terms.specs.Plan.{PlanValue}
+use Rattle.bb_terms.specs.Rules.{Kinds, Served}
+use Rattle.bb_terms.specs.Valid.{IsValidPlan}
 use Rattle.bb_written.specs.Falling.{HasNoLoop}
 use Rattle.bb_written.specs.Restricted.{KeepsFlops, RunsAsOriginal}
 use Rattle.bb_written.specs.Written.{written}

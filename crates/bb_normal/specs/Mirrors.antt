@@ -1,8 +1,8 @@
 -- When a netlist is the written one: module, ports and clock, and at each net the same driver. Nothing is asked of orders.
 use Rattle.std.specs.Prelude.{◌≡◌, ◌↔◌, take, Contains}
-use Rattle.bb_netlist.specs.Net.{Gate, Flop}
+use Rattle.bb_base.specs.Net.{Gate, Flop}
 use Rattle.bb_base.specs.Variables.{ports_of}
-use Rattle.bb_net.specs.Named.{Named}
+use Rattle.bb_base.specs.Named.{Named}
 use Rattle.bb_net.specs.Sites.{Site, Sited, sited}
 
 pub record Mirrors (w : Sited) (b : Named) : Type 0 where

@@ -1,11 +1,11 @@
 -- Normal operation: outside a test the written netlist runs as the original does, at the nets that both have.
 use Rattle.std.specs.Prelude.{◌≡◌, List, [], ◌∷◌, ◌++◌, length, map, Bool, false}
 use Rattle.std.specs.List.{AllByRecursion}
-use Rattle.bb_netlist.specs.Net.{Netlist, driven}
-use Rattle.bb_netlist.specs.Run.{IsRun}
+use Rattle.bb_base.specs.Net.{Netlist, driven}
+use Rattle.bb_base.specs.Run.{IsRun}
 use Rattle.bb_net.specs.Sites.{Site}
-use Rattle.bb_ctl.specs.declared.wire.Wire.TheVariants.{Test, Init, So, Done}
-use Rattle.bb_ctl.specs.Wires.{symbol_name}
+use Rattle.bb_terms.specs.declared.wire.Wire.TheVariants.{Test, Init, So, Done}
+use Rattle.bb_terms.specs.Wires.{symbol_name}
 use Rattle.bb_written.specs.Written.{scalar_site}
 
 abbrev pub site_test : Site

@@ -1,16 +1,16 @@
 //! Laws, as contracts of functions without a body.
 
 ghost use Rattle.std.specs.Prelude.{◌≡◌, ◌++◌, ℕ, List, Bool, map, Contains};
-ghost use Rattle.bb_netlist.specs.Net.{Gate as GateValue, renamed_gate, driven, reads};
-ghost use Rattle.bb_netlist.specs.Run.{IsTrace, IsRunBy, states, at};
-ghost use Rattle.bb_netlist.specs.Order.{HasOrder};
-ghost use Rattle.bb_net.specs.Named.{Named, IsNamed};
+ghost use Rattle.bb_base.specs.Net.{Gate as GateValue, renamed_gate, driven, reads};
+ghost use Rattle.bb_base.specs.Run.{IsTrace, IsRunBy, states, at};
+ghost use Rattle.bb_base.specs.Order.{HasOrder};
+ghost use Rattle.bb_base.specs.Named.{Named, IsNamed};
 ghost use Rattle.bb_net.specs.Sites.{Site, sited};
-ghost use Rattle.bb_rules.specs.Plan.{PlanValue};
-ghost use Rattle.bb_ctl.specs.declared.wire.Wire.{Wire};
+ghost use Rattle.bb_terms.specs.Plan.{PlanValue};
+ghost use Rattle.bb_terms.specs.declared.wire.Wire.{Wire};
 ghost use Rattle.bb_written.specs.Written.{wire_site, written_netlist, written};
-ghost use Rattle.bb_rules.specs.Rules.{Holds, Served};
-ghost use Rattle.bb_rules.specs.Valid.{IsValidPlan};
+ghost use Rattle.bb_terms.specs.Rules.{Holds, Served};
+ghost use Rattle.bb_terms.specs.Valid.{IsValidPlan};
 ghost use Rattle.bb_normal.specs.Mirrors.{Mirrors};
 ghost use Rattle.bb_normal.specs.Normal.{KeepsBits, Normal};
 ghost use Rattle.bb_ctl.specs.OwnNames.{HasOwnNames};

@@ -1,6 +1,6 @@
 -- A token on its way down the stack.
 use Rattle.std.proofs.Common.{◌≡◌, ℕ, ◌<◌, List, [], ◌∷◌, length, true, false, ◌∙◌, ap, arith, if◌then◌else◌}
-use Rattle.bb_lex.specs.declared.token.TokenKind.{TokenKind}
+use Rattle.bb_base.specs.declared.token.TokenKind.{TokenKind}
 use Rattle.bb_parse.specs.declared.draft.Draft.{Draft}
 use Rattle.bb_parse.specs.declared.symbol.Symbol.{Symbol}
 use Rattle.bb_parse.specs.declared.fault.ParseFault.TheVariants as faults

@@ -10,4 +10,3 @@ pub mod ExpressionMoves
 pub mod StatementMoves
 pub mod Machine
 pub mod Standing
-pub mod Texts

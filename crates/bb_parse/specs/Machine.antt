@@ -1,7 +1,7 @@
 -- The machine that reads token by token: a stack of what must still follow, and the module so far.
 use Rattle.std.specs.Prelude.{◌≡◌, ℕ, if◌then◌else◌, List, [], ◌∷◌, ◌++◌, Option, Some, None, Result, Ok, Err}
-use Rattle.bb_lex.specs.declared.token.TokenKind.{TokenKind}
-use Rattle.bb_lex.specs.declared.token.Token.{Token}
+use Rattle.bb_base.specs.declared.token.TokenKind.{TokenKind}
+use Rattle.bb_base.specs.declared.token.Token.{Token}
 use Rattle.bb_parse.specs.declared.draft.Draft.{Draft}
 use Rattle.bb_parse.specs.declared.symbol.Symbol.{Symbol}
 use Rattle.bb_parse.specs.declared.symbol.Symbol.TheVariants as symbols

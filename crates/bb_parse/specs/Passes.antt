@@ -1,8 +1,8 @@
 -- Symbols that may be empty, and the tokens that go by them to what follows.
 use Rattle.std.specs.Prelude.{Bool, true, false, not, [], ◌∷◌, None}
-use Rattle.bb_lex.specs.declared.token.Mark.TheVariants as marks
-use Rattle.bb_lex.specs.declared.token.TokenKind.{TokenKind}
-use Rattle.bb_lex.specs.declared.token.TokenKind.TheVariants as kinds
+use Rattle.bb_base.specs.declared.token.Mark.TheVariants as marks
+use Rattle.bb_base.specs.declared.token.TokenKind.{TokenKind}
+use Rattle.bb_base.specs.declared.token.TokenKind.TheVariants as kinds
 use Rattle.bb_parse.specs.declared.draft.Draft.{Draft}
 use Rattle.bb_parse.specs.declared.symbol.Symbol.{Symbol}
 use Rattle.bb_parse.specs.declared.symbol.Symbol.TheVariants as symbols

@@ -1,7 +1,7 @@
 -- Modules whose names are names, whose numbers are in their ranges and whose gates have operators of keywords, as those of a text.
 use Rattle.std.specs.Prelude.{◌^◌, ◌<◌, ◌≤◌, List, Option, Some, None}
 use Rattle.std.specs.List.{AllByRecursion}
-use Rattle.bb_lex.specs.Ranges.{IsSize}
+use Rattle.bb_base.specs.Tokens.{IsSize}
 use Rattle.bb_base.specs.declared.operator.Op.{Op}
 use Rattle.bb_base.specs.declared.operator.Op.TheVariants as ops
 use Rattle.bb_base.specs.Variables.{IsRange}

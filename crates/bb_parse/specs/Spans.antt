@@ -1,10 +1,10 @@
 -- Spans of tokens: a relation of the tokens from one place on to those from a later place on (after Pereira and Warren, 1980).
 use Rattle.std.specs.Prelude.{◌≡◌, ℕ, List, [], ◌∷◌}
 use Rattle.bb_base.specs.declared.keyword.Keyword.{Keyword}
-use Rattle.bb_lex.specs.declared.token.Mark.{Mark}
-use Rattle.bb_lex.specs.declared.token.Token.{Token}
-use Rattle.bb_lex.specs.declared.token.TokenKind.{TokenKind}
-use Rattle.bb_lex.specs.declared.token.TokenKind.TheVariants as kinds
+use Rattle.bb_base.specs.declared.token.Mark.{Mark}
+use Rattle.bb_base.specs.declared.token.Token.{Token}
+use Rattle.bb_base.specs.declared.token.TokenKind.{TokenKind}
+use Rattle.bb_base.specs.declared.token.TokenKind.TheVariants as kinds
 
 infixr 40 ◌⨾◌
 -- from the tokens at one place to the tokens at a later place

@@ -7,7 +7,7 @@ ghost use Rattle.bb_parse.specs.Standing.{MovesTo};
 use crate::ParseFault;
 use crate::reader::Reader;
 use crate::symbol::{Place, Symbol};
-use bb_lex::{Keyword, Mark, TokenKind};
+use bb_base::{Keyword, Mark, TokenKind};
 
 impl Reader {
     // What follows a direction.

@@ -7,7 +7,7 @@ ghost use Rattle.bb_parse.specs.Standing.{MovesTo};
 use crate::reader::Reader;
 use crate::symbol::{Made, Side, Symbol};
 use crate::{ParseFault, Step};
-use bb_lex::{Mark, TokenKind};
+use bb_base::{Mark, TokenKind};
 
 impl Reader {
     // An operand with its prefixes.

@@ -7,8 +7,7 @@ ghost use Rattle.bb_parse.specs.Drafts.{begin_decl};
 use crate::ParseFault;
 use crate::reader::Reader;
 use crate::symbol::{Place, Symbol};
-use bb_base::Role;
-use bb_lex::{Keyword, Mark, TokenKind};
+use bb_base::{Keyword, Mark, Role, TokenKind};
 
 impl Reader {
     // `module`.

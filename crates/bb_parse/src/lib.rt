@@ -6,9 +6,8 @@
 //! - What must still follow lies on the heap: a nested text takes two symbols of it for each `(`.
 //!
 //! `specs/Grammar.antt` has the productions, over the syntax trees of `specs/Trees.antt`, and `specs/Meaning.antt` says what
-//! module a tree stands for; `specs/Texts.antt` says what module or first flaw a text has. The parser follows the machine of
-//! `specs/Machine.antt`, and the laws of bb_grammar say that the machine agrees with the grammar. The grammar is this project's
-//! profile of Verilog (IEEE 1364).
+//! module a tree stands for. The parser follows the machine of `specs/Machine.antt`, and the laws of bb_grammar say that the machine
+//! agrees with the grammar, and what module or first flaw a text has. The grammar is this project's profile of Verilog (IEEE 1364).
 #![tactic(auto)]
 
 mod declaration;

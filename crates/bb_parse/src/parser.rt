@@ -8,7 +8,7 @@ use crate::reader::Reader;
 use crate::stack::Stack;
 use crate::symbol::Symbol;
 use crate::{Module, ParseFault};
-use bb_lex::Token;
+use bb_base::Token;
 use std::alloc::Global;
 use std::marker::Model;
 

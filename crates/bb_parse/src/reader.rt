@@ -13,7 +13,7 @@ use crate::ParseFault;
 use crate::draft::Draft;
 use crate::stack::Stack;
 use crate::symbol::{Symbol, passes};
-use bb_lex::{Mark, TokenKind};
+use bb_base::{Mark, TokenKind};
 use std::alloc::Global;
 
 /// What must still follow, and the module so far.

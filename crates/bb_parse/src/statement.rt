@@ -9,8 +9,7 @@ ghost use Rattle.bb_parse.specs.declared.symbol.Symbol.TheVariants.{MoreDecls, I
 use crate::ParseFault;
 use crate::reader::Reader;
 use crate::symbol::{Place, Side, Symbol};
-use bb_base::{Op, Role};
-use bb_lex::{Keyword, Mark, TokenKind};
+use bb_base::{Keyword, Mark, Op, Role, TokenKind};
 
 // The operator of a gate's keyword.
 fn gate_op(keyword: Keyword) -> Option<Op>

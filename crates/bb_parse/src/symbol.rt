@@ -1,7 +1,7 @@
 ghost use Rattle.std.specs.Prelude.{◌≡◌};
 ghost use Rattle.bb_parse.specs.Passes.{passes};
 
-use bb_lex::{Mark, TokenKind};
+use bb_base::{Mark, TokenKind};
 
 /// Where a declared name stands.
 #[derive(Clone, Copy, Debug, PartialEq, Eq)]

@@ -1,4 +1,5 @@
-use bb_lex::{LexFault, Lexer, Mark, Token, TokenKind};
+use bb_base::{LexFault, Mark, Token, TokenKind};
+use bb_lex::Lexer;
 use std::alloc::{AllocError, Global};
 use std::process::Abort;
 use std::test::Fail;

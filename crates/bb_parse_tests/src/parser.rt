@@ -1,5 +1,5 @@
-use bb_base::Name;
-use bb_lex::{Lexer, Token};
+use bb_base::{Name, Token};
+use bb_lex::Lexer;
 use bb_parse::{Conns, Decl, Expr, Header, Item, Module, ParseFault, Parser, Ref, Sequence, Step};
 use std::alloc::{AllocError, Global};
 use std::process::Abort;

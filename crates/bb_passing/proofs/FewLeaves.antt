@@ -5,16 +5,16 @@ use Rattle.std.proofs.lemmas.Slice.Zip.{AllZip-long}
 use Rattle.std.specs.List.{AllByRecursion, AllZip}
 use Rattle.bb_base.proofs.Contained.{here, there, place_of}
 use Rattle.bb_base.proofs.Distinct.{few_distinct}
-use Rattle.bb_netlist.specs.Net.{Netlist, IsNetlist}
+use Rattle.bb_base.specs.Net.{Netlist, IsNetlist}
 use Rattle.bb_segment.proofs.SetLemmas.{up_apart}
-use Rattle.bb_segment.specs.Paths.{IsLeaf}
-use Rattle.bb_rules.specs.declared.plan.Cell.{Cell}
-use Rattle.bb_rules.specs.Kinds.{is_observer}
-use Rattle.bb_rules.specs.Lines.{is_stop}
-use Rattle.bb_rules.specs.Plan.{PlanValue, chain}
-use Rattle.bb_rules.specs.Rules.{Frame, Apart, Widths, AreLeavesOf}
-use Rattle.bb_rules.specs.Sources.{IsSourceAt}
-use Rattle.bb_rules.specs.Valid.{IsValidPlan, SegmentValue, IsSourceOf, IsSegmentOf}
+use Rattle.bb_terms.specs.Paths.{IsLeaf}
+use Rattle.bb_terms.specs.declared.plan.Cell.{Cell}
+use Rattle.bb_terms.specs.Kinds.{is_observer}
+use Rattle.bb_terms.specs.Lines.{is_stop}
+use Rattle.bb_terms.specs.Plan.{PlanValue, chain}
+use Rattle.bb_terms.specs.Rules.{Frame, Apart, Widths, AreLeavesOf}
+use Rattle.bb_terms.specs.Sources.{IsSourceAt}
+use Rattle.bb_terms.specs.Valid.{IsValidPlan, SegmentValue, IsSourceOf, IsSegmentOf}
 use Rattle.bb_rules.proofs.CodeLemmas.{one_start}
 use Rattle.bb_rules.proofs.SourceLemmas.{one_source}
 use Rattle.bb_passing.proofs.Places.{zip_at}

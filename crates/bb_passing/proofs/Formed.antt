@@ -6,20 +6,20 @@ use Rattle.std.specs.List.{AllByRecursion, AllZip, range_with_len}
 use Rattle.bb_base.specs.Variables.{bit_count}
 use Rattle.bb_base.proofs.Contained.{here, there, place_of, at_place, by_place, contains_at, to_all}
 use Rattle.bb_base.proofs.Lists.{all_parts, length_map}
-use Rattle.bb_netlist.specs.Net.{driven}
-use Rattle.bb_net.specs.Named.{Named, IsNamed}
+use Rattle.bb_base.specs.Net.{driven}
+use Rattle.bb_base.specs.Named.{Named, IsNamed}
 use Rattle.bb_net.proofs.CountLemmas.{nets_few}
 use Rattle.bb_gf2.proofs.Pairing.{from_bits_below}
-use Rattle.bb_creg.specs.Signature.{signature}
-use Rattle.bb_creg.proofs.Growth.{length_signature}
-use Rattle.bb_rules.specs.declared.kind.Kind.{Kind}
-use Rattle.bb_rules.specs.declared.kind.Kind.TheVariants.{Input, State, Split, Cut, Watch, Output}
-use Rattle.bb_rules.specs.declared.plan.Cell.{Cell}
-use Rattle.bb_rules.specs.Plan.{PlanValue, RegisterValue, chain, observers}
-use Rattle.bb_rules.specs.Rules.{MayStand, IsQ, IsGateNet, MayCompact, Frame, Registers, Kinds, Sessions, Columns}
-use Rattle.bb_rules.specs.Valid.{IsValidPlan, SegmentValue, IsSegmentOf}
-use Rattle.bb_rules.specs.Signatures.{IsSigned}
-use Rattle.bb_rules.proofs.NetLemmas.{out_within, q_within, input_net_within}
+use Rattle.bb_terms.specs.Signature.{signature}
+use Rattle.bb_terms.proofs.Growth.{length_signature}
+use Rattle.bb_terms.specs.declared.kind.Kind.{Kind}
+use Rattle.bb_terms.specs.declared.kind.Kind.TheVariants.{Input, State, Split, Cut, Watch, Output}
+use Rattle.bb_terms.specs.declared.plan.Cell.{Cell}
+use Rattle.bb_terms.specs.Plan.{PlanValue, RegisterValue, chain, observers}
+use Rattle.bb_terms.specs.Rules.{MayStand, IsQ, IsGateNet, MayCompact, Frame, Registers, Kinds, Sessions, Columns}
+use Rattle.bb_terms.specs.Valid.{IsValidPlan, SegmentValue, IsSegmentOf}
+use Rattle.bb_terms.specs.Signatures.{IsSigned}
+use Rattle.bb_terms.proofs.NetLemmas.{out_within, q_within, input_net_within}
 use Rattle.bb_rules.proofs.CodeLemmas.{segment_duals_below}
 use Rattle.bb_plan.proofs.ObserverLemmas.{observer_is}
 use Rattle.bb_written.proofs.Few.{are_few}

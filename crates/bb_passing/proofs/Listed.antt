@@ -6,12 +6,12 @@ use Rattle.std.proofs.lemmas.Slice.Zip.{firsts-zip, seconds-zip}
 use Rattle.std.specs.List.{AllByRecursion, AllZip}
 use Rattle.bb_base.proofs.Contained.{at_place, by_place}
 use Rattle.bb_base.proofs.Lists.{length_map}
-use Rattle.bb_gf2.specs.Dual.{AreDuals}
-use Rattle.bb_netlist.specs.Net.{Netlist}
-use Rattle.bb_rules.specs.declared.plan.Cell.{Cell}
-use Rattle.bb_rules.specs.Plan.{PlanValue}
-use Rattle.bb_rules.specs.Rules.{Columns}
-use Rattle.bb_rules.specs.Valid.{IsValidPlan, SegmentValue, IsSegmentOf, column_at}
+use Rattle.bb_base.specs.Dual.{AreDuals}
+use Rattle.bb_base.specs.Net.{Netlist}
+use Rattle.bb_terms.specs.declared.plan.Cell.{Cell}
+use Rattle.bb_terms.specs.Plan.{PlanValue}
+use Rattle.bb_terms.specs.Rules.{Columns}
+use Rattle.bb_terms.specs.Valid.{IsValidPlan, SegmentValue, IsSegmentOf, column_at}
 use Rattle.bb_rules.proofs.CodeLemmas.{segment_duals_below, segment_duals}
 use Rattle.bb_forms.specs.declared.signature.Signature.{Signature}
 use Rattle.bb_forms.specs.CertificateText.{CertificateSegmentValue}

@@ -1,11 +1,11 @@
 -- What is made passes.
 use Rattle.std.proofs.Common.{ℕ, ◌≤◌, List, refl, sym, subst}
 use Rattle.bb_base.specs.Variables.{bit_count}
-use Rattle.bb_net.specs.Named.{Named, IsNamed}
+use Rattle.bb_base.specs.Named.{Named, IsNamed}
 use Rattle.bb_normal.proofs.Mirroring.{itself}
-use Rattle.bb_rules.specs.Plan.{observers}
-use Rattle.bb_rules.specs.Signatures.{AreSignatures, IsSigned}
-use Rattle.bb_rules.specs.Valid.{ValidValue}
+use Rattle.bb_terms.specs.Plan.{observers}
+use Rattle.bb_terms.specs.Signatures.{AreSignatures, IsSigned}
+use Rattle.bb_terms.specs.Valid.{ValidValue}
 use Rattle.bb_words.specs.declared.command.Settings.{Settings}
 use Rattle.bb_make.specs.Files.{signed_sessions, certificate_of}
 use Rattle.bb_make.specs.Artifacts.{ArtifactsValue, AreArtifacts}

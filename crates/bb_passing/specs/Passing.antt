@@ -1,6 +1,6 @@
 -- The values that the texts of a self-test say, where they pass beside the original (this project's own).
 use Rattle.std.specs.Prelude.{◌≡◌}
-use Rattle.bb_net.specs.Named.{Named}
+use Rattle.bb_base.specs.Named.{Named}
 use Rattle.bb_forms.specs.ScheduleText.{schedule_text, IsFormedPlan}
 use Rattle.bb_forms.specs.SignatureText.{signature_text, AreFormedSignatures}
 use Rattle.bb_forms.specs.CertificateText.{certificate_text, IsFormedCertificate}

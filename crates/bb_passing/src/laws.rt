@@ -2,7 +2,7 @@
 
 ghost use Rattle.std.specs.Prelude.{◌≤◌, ℕ, List};
 ghost use Rattle.bb_base.specs.Variables.{bit_count};
-ghost use Rattle.bb_net.specs.Named.{Named, IsNamed};
+ghost use Rattle.bb_base.specs.Named.{Named, IsNamed};
 ghost use Rattle.bb_words.specs.declared.command.Settings.{Settings};
 ghost use Rattle.bb_make.specs.Artifacts.{ArtifactsValue, AreArtifacts};
 ghost use Rattle.bb_audit.specs.Audited.{Audited};

@@ -6,11 +6,11 @@ use Rattle.std.proofs.lemmas.Option.{slice_get-map, slice_get_within, get_or_fro
 use Rattle.std.specs.Option.{option_map}
 use Rattle.std.specs.List.{flat_map, list_any}
 use Rattle.bb_base.proofs.Lists.{get_front, get_back, get_map, map_join, map_twice, length_map}
-use Rattle.bb_rules.specs.declared.plan.Cell.{Cell}
-use Rattle.bb_rules.specs.Kinds.{is_cut}
-use Rattle.bb_rules.specs.Plan.{RegisterValue, PlanValue, chain, IsCell}
-use Rattle.bb_rules.specs.Lines.{cut_nets}
-use Rattle.bb_rules.specs.Valid.{column_at}
+use Rattle.bb_terms.specs.declared.plan.Cell.{Cell}
+use Rattle.bb_terms.specs.Kinds.{is_cut}
+use Rattle.bb_terms.specs.Plan.{RegisterValue, PlanValue, chain, IsCell}
+use Rattle.bb_terms.specs.Lines.{cut_nets}
+use Rattle.bb_terms.specs.Valid.{column_at}
 use Rattle.bb_fits.proofs.FirstWrong.{item_at}
 use Rattle.bb_plan.proofs.PlaceLemmas.{take_long}
 use Rattle.bb_plan.specs.declared.chain.Link.{Link}

@@ -5,7 +5,7 @@ use Rattle.std.proofs.lemmas.Grind.{common_steps}
 use Rattle.std.proofs.lemmas.List.Elements.{All-contains}
 use Rattle.std.specs.List.{list_any}
 use Rattle.bb_base.proofs.Contained.{here, there, none_in}
-use Rattle.bb_rules.specs.Plan.{lists_register}
+use Rattle.bb_terms.specs.Plan.{lists_register}
 use Rattle.bb_plan.specs.Clashes.{feeders_at, session_clashes}
 
 -- tests that agree on the items agree on the list

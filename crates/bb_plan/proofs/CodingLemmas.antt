@@ -4,14 +4,14 @@ use Rattle.std.specs.List.{AllZip}
 use Rattle.std.specs.List.Sorted.{IsStrictlyIncreasing}
 use Rattle.std.proofs.lemmas.List.Sorted.{IsPermutation-sym}
 use Rattle.bb_base.specs.Places.{EachAt}
-use Rattle.bb_netlist.specs.Net.{Netlist, IsNetlist}
-use Rattle.bb_gf2.specs.Span.{IsIndependent}
-use Rattle.bb_gf2.specs.Dual.{AreLeastDuals}
-use Rattle.bb_rules.specs.declared.plan.Cell.{Cell}
-use Rattle.bb_rules.specs.Plan.{PlanValue, chain, observers}
-use Rattle.bb_rules.specs.Lines.{column_of}
-use Rattle.bb_rules.specs.Rules.{Codes, Holds, FailsAt, IsCoded}
-use Rattle.bb_rules.specs.Valid.{SegmentValue, column_at, IsSegmentOf}
+use Rattle.bb_base.specs.Net.{Netlist, IsNetlist}
+use Rattle.bb_base.specs.Span.{IsIndependent}
+use Rattle.bb_base.specs.Dual.{AreLeastDuals}
+use Rattle.bb_terms.specs.declared.plan.Cell.{Cell}
+use Rattle.bb_terms.specs.Plan.{PlanValue, chain, observers}
+use Rattle.bb_terms.specs.Lines.{column_of}
+use Rattle.bb_terms.specs.Rules.{Codes, Holds, FailsAt, IsCoded}
+use Rattle.bb_terms.specs.Valid.{SegmentValue, column_at, IsSegmentOf}
 use Rattle.bb_plan.specs.declared.chain.Link.{Link}
 use Rattle.bb_plan.specs.Chain.{links_from, column_of_cell}
 use Rattle.bb_plan.specs.Layout.{LineValue, IsObservedLine}

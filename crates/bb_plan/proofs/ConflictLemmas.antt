@@ -7,11 +7,11 @@ use Rattle.std.proofs.lemmas.Option.{slice_get_within, slice_get-get_or, get_or_
 use Rattle.std.specs.List.{AllZip, flat_map, list_any}
 use Rattle.bb_base.specs.Places.{EachAt, IsFirstWrong}
 use Rattle.bb_base.proofs.Contained.{none_in, of_all, to_all, by_place, contains_map, place_of, contains_at}
-use Rattle.bb_netlist.specs.Net.{Netlist}
-use Rattle.bb_rules.specs.declared.plan.Cell.{Cell}
-use Rattle.bb_rules.specs.Kinds.{is_observer}
-use Rattle.bb_rules.specs.Plan.{PlanValue, chain, IsCell, observers, lists_register}
-use Rattle.bb_rules.specs.Rules.{Sessions, Conflicts, Holds, HasNoConflict, MayCompact}
+use Rattle.bb_base.specs.Net.{Netlist}
+use Rattle.bb_terms.specs.declared.plan.Cell.{Cell}
+use Rattle.bb_terms.specs.Kinds.{is_observer}
+use Rattle.bb_terms.specs.Plan.{PlanValue, chain, IsCell, observers, lists_register}
+use Rattle.bb_terms.specs.Rules.{Sessions, Conflicts, Holds, HasNoConflict, MayCompact}
 use Rattle.bb_rules.proofs.CellLemmas.{cell_at}
 use Rattle.bb_fits.specs.Answers.{MeetsTo, IsVerdict}
 use Rattle.bb_fits.proofs.Items.{any_item, any_of}

@@ -2,11 +2,11 @@
 use Rattle.std.proofs.Common.{arith, ◌≡◌, ℕ, ◌<◌, ◌≤◌, ◌^◌, List, refl, sym, ap, subst, Err}
 use Rattle.std.specs.Result.{IsErrOf}
 use Rattle.std.proofs.lemmas.Option.{slice_get_within}
-use Rattle.bb_netlist.specs.Net.{Netlist}
-use Rattle.bb_netlist.specs.Order.{IsOrder}
-use Rattle.bb_rules.specs.Plan.{PlanValue, chain}
-use Rattle.bb_rules.specs.Rules.{Rule, Frame, Registers, Kinds, Apart, Served, Pure, Sessions, Compacted, Room, Columns, Widths, Conflicts, Codes, Period, rule_number, FailsAt}
-use Rattle.bb_rules.specs.Valid.{IsRuleFault, IsValidPlan}
+use Rattle.bb_base.specs.Net.{Netlist}
+use Rattle.bb_base.specs.Order.{IsOrder}
+use Rattle.bb_terms.specs.Plan.{PlanValue, chain}
+use Rattle.bb_terms.specs.Rules.{Rule, Frame, Registers, Kinds, Apart, Served, Pure, Sessions, Compacted, Room, Columns, Widths, Conflicts, Codes, Period, rule_number, FailsAt}
+use Rattle.bb_terms.specs.Valid.{IsRuleFault, IsValidPlan}
 use Rattle.bb_fits.specs.Answers.{MeetsTo}
 use Rattle.bb_fits.proofs.Stages.{first_fault}
 use Rattle.bb_plan.specs.Answered.{IsAnsweredFault}

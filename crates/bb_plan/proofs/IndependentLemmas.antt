@@ -9,9 +9,9 @@ use Rattle.std.proofs.lemmas.Option.{slice_get_within, slice_get-get_or, get_or_
 use Rattle.std.specs.Prelude.{nat_eq}
 use Rattle.bb_base.proofs.Contained.{here, there, place_of, contains_at}
 use Rattle.bb_base.proofs.Distinct.{one_place}
-use Rattle.bb_gf2.specs.Parity.{code_bit}
-use Rattle.bb_gf2.specs.Span.{IsIndependent}
-use Rattle.bb_gf2.specs.Dual.{IsDual, AreDuals}
+use Rattle.bb_base.specs.Parity.{code_bit}
+use Rattle.bb_base.specs.Span.{IsIndependent}
+use Rattle.bb_base.specs.Dual.{IsDual, AreDuals}
 use Rattle.bb_gf2.proofs.Pairing.{duals_from_least}
 use Rattle.bb_gf2.proofs.Existence.{duals_exist, independent}
 

@@ -1,12 +1,12 @@
 -- What the rules before the lines say of a plan's chain.
 use Rattle.std.proofs.Common.{arith, ◌≡◌, ℕ, ◌≤◌, ◌^◌, ◌||◌, List, length, Bool, refl, ap, ◌∙◌}
 use Rattle.std.proofs.Math.Nat.{pow-le-pow_right}
-use Rattle.bb_netlist.specs.Net.{Netlist, driven, IsNetlist}
-use Rattle.bb_segment.specs.Paths.{is_free}
-use Rattle.bb_segment.specs.Support.{stop_at}
-use Rattle.bb_rules.specs.Plan.{RegisterValue, PlanValue, chain}
-use Rattle.bb_rules.specs.Lines.{is_stop}
-use Rattle.bb_rules.specs.Rules.{Frame, Registers, Kinds, Apart, Room}
+use Rattle.bb_base.specs.Net.{Netlist, driven, IsNetlist}
+use Rattle.bb_terms.specs.Paths.{is_free}
+use Rattle.bb_terms.specs.Support.{stop_at}
+use Rattle.bb_terms.specs.Plan.{RegisterValue, PlanValue, chain}
+use Rattle.bb_terms.specs.Lines.{is_stop}
+use Rattle.bb_terms.specs.Rules.{Frame, Registers, Kinds, Apart, Room}
 use Rattle.bb_plan.specs.declared.chain.Link.{Link}
 use Rattle.bb_plan.specs.Chain.{links_from, has_cut, AreOnNets, HaveOneSource}
 use Rattle.bb_fits.specs.Answers.{MeetsTo}

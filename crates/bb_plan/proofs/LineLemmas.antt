@@ -9,19 +9,19 @@ use Rattle.std.proofs.lemmas.List.Sorted.{IsPermutation-sym, IsPermutation-map, 
 use Rattle.std.proofs.lemmas.Option.{slice_get-map, slice_get-get_or, get_or_from_slice_get}
 use Rattle.bb_base.proofs.Lists.{get_map, map_twice, length_map}
 use Rattle.bb_base.proofs.Contained.{to_all, map_on, contains_map, place_of, contains_at}
-use Rattle.bb_netlist.specs.Net.{Netlist, driven}
-use Rattle.bb_segment.specs.Paths.{Start, IsLeaf}
+use Rattle.bb_base.specs.Net.{Netlist, driven}
+use Rattle.bb_terms.specs.Paths.{Start, IsLeaf}
 use Rattle.bb_segment.proofs.SetLemmas.{sorted_up, up_apart}
-use Rattle.bb_rules.specs.declared.plan.Cell.{Cell}
-use Rattle.bb_rules.specs.Kinds.{is_source}
-use Rattle.bb_rules.specs.Plan.{PlanValue, chain}
-use Rattle.bb_rules.specs.Lines.{is_stop, IsLeafOf, column_of}
-use Rattle.bb_rules.specs.Rules.{Kinds, Apart, Served, AreLeavesOf}
-use Rattle.bb_rules.specs.Sources.{IsSourceAt}
-use Rattle.bb_rules.specs.Valid.{column_at, IsSourceOf}
+use Rattle.bb_terms.specs.declared.plan.Cell.{Cell}
+use Rattle.bb_terms.specs.Kinds.{is_source}
+use Rattle.bb_terms.specs.Plan.{PlanValue, chain}
+use Rattle.bb_terms.specs.Lines.{is_stop, IsLeafOf, column_of}
+use Rattle.bb_terms.specs.Rules.{Kinds, Apart, Served, AreLeavesOf}
+use Rattle.bb_terms.specs.Sources.{IsSourceAt}
+use Rattle.bb_terms.specs.Valid.{column_at, IsSourceOf}
 use Rattle.bb_rules.proofs.CellLemmas.{column_is}
 use Rattle.bb_rules.proofs.CodeLemmas.{one_start}
-use Rattle.bb_rules.proofs.StopLemmas.{source_at, leaf_within}
+use Rattle.bb_terms.proofs.StopLemmas.{source_at, leaf_within}
 use Rattle.bb_plan.specs.declared.chain.Link.{Link}
 use Rattle.bb_fits.specs.Answers.{MeetsTo}
 use Rattle.bb_plan.specs.Layout.{IsLayout, IsObservedLine}

@@ -2,9 +2,9 @@
 use Rattle.std.proofs.Common.{arith, ℕ, ◌≤◌, map, ap, ◌∙◌, Some}
 use Rattle.std.proofs.lemmas.Option.{slice_get-map}
 use Rattle.std.specs.Option.{option_map}
-use Rattle.bb_netlist.specs.Net.{Gate, Flop, Netlist, times, IsNetlist}
-use Rattle.bb_netlist.proofs.GateLemmas.{stands_once, outs_times, at_most_one, out_at}
-use Rattle.bb_rules.specs.Rules.{IsInput, IsQ, IsGateNet}
+use Rattle.bb_base.specs.Net.{Gate, Flop, Netlist, times, IsNetlist}
+use Rattle.bb_base.proofs.GateLemmas.{stands_once, outs_times, at_most_one, out_at}
+use Rattle.bb_terms.specs.Rules.{IsInput, IsQ, IsGateNet}
 
 module _ (a : Netlist ℕ) (is : IsNetlist a) where
   once_q : (net : ℕ) → IsQ a net → 1 ≤ times net (map (λ (f : Flop ℕ). f.q) a.flops)

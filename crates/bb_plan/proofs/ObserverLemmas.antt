@@ -4,8 +4,8 @@ use Rattle.std.proofs.lemmas.Option.{slice_get_within}
 use Rattle.std.proofs.lemmas.Slice.Zip.{all_zipped_more}
 use Rattle.bb_plan.proofs.PlaceLemmas.{take_long, take_next}
 use Rattle.std.specs.List.{AllZip, enumerate_from}
-use Rattle.bb_rules.specs.declared.plan.Cell.{Cell}
-use Rattle.bb_rules.specs.Kinds.{is_observer}
+use Rattle.bb_terms.specs.declared.plan.Cell.{Cell}
+use Rattle.bb_terms.specs.Kinds.{is_observer}
 
 -- the observers among some cells, the first of which has the number n
 abbrev pub observers_from : ℕ → List Cell → List (ℕ × Cell)

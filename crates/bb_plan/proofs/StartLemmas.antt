@@ -1,19 +1,19 @@
 -- Where walks back from observers start, and the leaves at which they end.
 use Rattle.std.proofs.Common.{arith, ◌≡◌, ℕ, ◌<◌, List, length, Bool, true, refl, sym, ap, subst, ◌∙◌, slice_get, Some}
 use Rattle.bb_base.proofs.Contained.{contains_at}
-use Rattle.bb_netlist.specs.Net.{Gate, Flop, Netlist, IsNetlist}
-use Rattle.bb_segment.specs.Paths.{Start, AtNet, Behind}
-use Rattle.bb_segment.specs.Support.{AreLeaves, HasLeaves, stop_at, start_in}
-use Rattle.bb_segment.specs.declared.start.Start.{Start as CodeStart}
+use Rattle.bb_base.specs.Net.{Gate, Flop, Netlist, IsNetlist}
+use Rattle.bb_terms.specs.Paths.{Start, AtNet, Behind}
+use Rattle.bb_terms.specs.Support.{AreLeaves, HasLeaves, stop_at, start_in}
+use Rattle.bb_terms.specs.declared.start.Start.{Start as CodeStart}
 use Rattle.bb_segment.proofs.SupportLemmas.{one_support}
-use Rattle.bb_rules.specs.declared.kind.Kind.{Kind}
-use Rattle.bb_rules.specs.declared.kind.Kind.TheVariants.{Input, State, Split, Cut, Watch, Output}
-use Rattle.bb_rules.specs.declared.plan.Cell.{Cell}
-use Rattle.bb_rules.specs.Kinds.{is_observer}
-use Rattle.bb_rules.specs.Plan.{PlanValue}
-use Rattle.bb_rules.specs.Lines.{d_of, is_stop, IsStartOf, IsStart}
-use Rattle.bb_rules.specs.Rules.{MayStand, Fits, AreLeavesOf, IsNarrow}
-use Rattle.bb_rules.proofs.NetLemmas.{d_is}
+use Rattle.bb_terms.specs.declared.kind.Kind.{Kind}
+use Rattle.bb_terms.specs.declared.kind.Kind.TheVariants.{Input, State, Split, Cut, Watch, Output}
+use Rattle.bb_terms.specs.declared.plan.Cell.{Cell}
+use Rattle.bb_terms.specs.Kinds.{is_observer}
+use Rattle.bb_terms.specs.Plan.{PlanValue}
+use Rattle.bb_terms.specs.Lines.{d_of, is_stop, IsStartOf, IsStart}
+use Rattle.bb_terms.specs.Rules.{MayStand, Fits, AreLeavesOf, IsNarrow}
+use Rattle.bb_terms.proofs.NetLemmas.{d_is}
 use Rattle.bb_rules.proofs.CodeLemmas.{one_start}
 use Rattle.bb_plan.proofs.NetLemmas.{no_input_q, no_input_gate, no_q_gate}
 

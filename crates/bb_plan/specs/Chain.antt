@@ -1,9 +1,9 @@
 -- The chain of all cells, each with its register's number. No public contract cites this.
 use Rattle.std.specs.Prelude.{◌≡◌, ℕ, ◌<◌, ◌&&◌, ◌==◌, suc, Bool, true, List, [], ◌∷◌, ◌++◌, map, Some, slice_get, slice_index}
 use Rattle.std.specs.List.{list_any}
-use Rattle.bb_rules.specs.declared.plan.Cell.{Cell}
-use Rattle.bb_rules.specs.Kinds.{is_source, is_cut}
-use Rattle.bb_rules.specs.Plan.{RegisterValue}
+use Rattle.bb_terms.specs.declared.plan.Cell.{Cell}
+use Rattle.bb_terms.specs.Kinds.{is_source, is_cut}
+use Rattle.bb_terms.specs.Plan.{RegisterValue}
 use Rattle.bb_plan.specs.declared.chain.Link.{Link}
 
 -- the cells of one register

@@ -1,7 +1,7 @@
 -- Which registers hold leaves of a register's lines, and which sessions list both. No public contract cites this.
 use Rattle.std.specs.Prelude.{ℕ, Bool, ◌==◌, List, [], if◌then◌else◌, map, slice_index_or}
 use Rattle.std.specs.List.{list_any, flat_map}
-use Rattle.bb_rules.specs.Plan.{lists_register}
+use Rattle.bb_terms.specs.Plan.{lists_register}
 use Rattle.bb_plan.specs.declared.chain.Link.{Link}
 use Rattle.bb_plan.specs.Chain.{register_of_cell}
 use Rattle.bb_plan.specs.Layout.{LineValue}

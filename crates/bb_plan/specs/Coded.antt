@@ -1,9 +1,9 @@
 -- Lines with the duals of their source cells' columns, and the first line whose columns are dependent. No public contract cites this.
 use Rattle.std.specs.Prelude.{◌≡◌, ℕ, List, map}
 use Rattle.bb_base.specs.Places.{IsFirstWrong}
-use Rattle.bb_gf2.specs.Dual.{AreLeastDuals}
-use Rattle.bb_gf2.specs.Span.{IsIndependent}
-use Rattle.bb_rules.specs.Valid.{SegmentValue}
+use Rattle.bb_base.specs.Dual.{AreLeastDuals}
+use Rattle.bb_base.specs.Span.{IsIndependent}
+use Rattle.bb_terms.specs.Valid.{SegmentValue}
 use Rattle.bb_plan.specs.declared.chain.Link.{Link}
 use Rattle.bb_plan.specs.Chain.{column_of_cell}
 use Rattle.bb_plan.specs.Layout.{LineValue}

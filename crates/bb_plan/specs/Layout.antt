@@ -1,13 +1,13 @@
 -- What is read of a plan before its lines are walked, and the lines by their source cells. No public contract cites this.
 use Rattle.std.specs.Prelude.{◌≡◌, ◌↔◌, ℕ, ◌<◌, ◌≤◌, ◌^◌, Bool, List, length, map, Contains}
 use Rattle.std.specs.List.Sorted.{IsPermutation, IsStrictlyIncreasing}
-use Rattle.bb_netlist.specs.Net.{Netlist, driven, IsNetlist}
-use Rattle.bb_segment.specs.Support.{stop_at}
-use Rattle.bb_rules.specs.declared.plan.Cell.{Cell}
-use Rattle.bb_rules.specs.Plan.{PlanValue}
-use Rattle.bb_rules.specs.Lines.{is_stop, column_of}
-use Rattle.bb_rules.specs.Rules.{AreLeavesOf}
-use Rattle.bb_rules.specs.Valid.{column_at, IsSourceOf}
+use Rattle.bb_base.specs.Net.{Netlist, driven, IsNetlist}
+use Rattle.bb_terms.specs.Support.{stop_at}
+use Rattle.bb_terms.specs.declared.plan.Cell.{Cell}
+use Rattle.bb_terms.specs.Plan.{PlanValue}
+use Rattle.bb_terms.specs.Lines.{is_stop, column_of}
+use Rattle.bb_terms.specs.Rules.{AreLeavesOf}
+use Rattle.bb_terms.specs.Valid.{column_at, IsSourceOf}
 use Rattle.bb_plan.specs.declared.chain.Link.{Link}
 use Rattle.bb_plan.specs.Chain.{links_from, AreSources}
 

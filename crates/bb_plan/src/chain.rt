@@ -3,7 +3,7 @@
 ghost use Rattle.std.specs.Prelude.{◌≡◌, ◌<◌, ◌^◌, ◌++◌, length, IfOk, OnOk};
 ghost use Rattle.bb_plan.specs.Chain.{links_in, links_from};
 
-use bb_rules::{Cell, Register};
+use bb_terms::{Cell, Register};
 use std::alloc::{AllocError, Global};
 
 /// A cell of the chain, and the number of its register.

@@ -3,13 +3,13 @@
 ghost use Rattle.std.specs.Prelude.{◌≡◌, ◌<◌, ◌≤◌, ◌^◌, ◌++◌, ◌==◌, ℕ, [], false, length, map, All, IfOk, OnOk, None, Some, slice_index, if◌then◌else◌};
 ghost use Rattle.std.specs.List.{list_any};
 ghost use Rattle.bb_base.specs.Places.{EachAt, IsFirstWrong};
-ghost use Rattle.bb_rules.specs.Plan.{lists_register};
+ghost use Rattle.bb_terms.specs.Plan.{lists_register};
 ghost use Rattle.bb_plan.specs.Chain.{register_of_cell};
 ghost use Rattle.bb_plan.specs.Clashes.{feeders_in, feeders_at, session_clashes};
 
 use crate::chain::Link;
 use crate::lines::Line;
-use bb_rules::{Register, Session};
+use bb_terms::{Register, Session};
 use std::alloc::{AllocError, Global};
 use std::marker::Model;
 

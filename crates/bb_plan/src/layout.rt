@@ -7,8 +7,8 @@ ghost use Rattle.bb_plan.specs.Layout.{IsLayout};
 use crate::chain::{Link, chain_of};
 use crate::sources::sources_of;
 use crate::stops::stops_of;
-use bb_netlist::Netlist;
-use bb_rules::Plan;
+use bb_base::Netlist;
+use bb_terms::Plan;
 use std::alloc::{AllocError, Global};
 
 /// The chain of a plan's cells; for each net whether it is a stop; and for each net the number of its source cell.

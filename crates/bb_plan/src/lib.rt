@@ -17,5 +17,4 @@ mod stops;
 mod validity;
 mod walked;
 
-pub use bb_rules::{Cell, Kind, Plan, PlanFault, Register, Segment, Session, Valid};
 pub use validity::validate;

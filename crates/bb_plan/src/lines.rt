@@ -2,22 +2,23 @@
 
 ghost use Rattle.std.specs.Prelude.{◌≡◌, ◌<◌, ◌≤◌, ℕ, true, None, Some, length, IfOk, OnOk, IfSome, IsErrOf, slice_get};
 ghost use Rattle.std.specs.List.{AllZip};
-ghost use Rattle.bb_netlist.specs.Net.{driven, IsNetlist};
-ghost use Rattle.bb_segment.specs.Paths.{Start as PlainStart};
-ghost use Rattle.bb_segment.specs.Support.{start_in, StartExists};
-ghost use Rattle.bb_rules.specs.Kinds.{is_observer};
-ghost use Rattle.bb_rules.specs.Plan.{observers, chain};
-ghost use Rattle.bb_rules.specs.Lines.{IsStart};
-ghost use Rattle.bb_rules.specs.Rules.{Holds, FailsAt, Widths, Fits, IsNarrow, AreLeavesOf};
+ghost use Rattle.bb_base.specs.Net.{driven, IsNetlist};
+ghost use Rattle.bb_terms.specs.Paths.{Start as PlainStart};
+ghost use Rattle.bb_terms.specs.Support.{start_in, StartExists};
+ghost use Rattle.bb_terms.specs.Kinds.{is_observer};
+ghost use Rattle.bb_terms.specs.Plan.{observers, chain};
+ghost use Rattle.bb_terms.specs.Lines.{IsStart};
+ghost use Rattle.bb_terms.specs.Rules.{Holds, FailsAt, Widths, Fits, IsNarrow, AreLeavesOf};
 ghost use Rattle.bb_fits.specs.Answers.{MeetsTo};
 ghost use Rattle.bb_plan.specs.Layout.{IsLayout, IsObservedLine};
 
 use crate::layout::Layout;
 use crate::sources::ascending_numbers;
 use arrayvec::ArrayVec;
-use bb_netlist::{Driver, NetId, Netlist, Order};
-use bb_rules::{Cell, Plan, PlanFault};
-use bb_segment::{Start, Walk, support};
+use bb_base::{Driver, NetId, Netlist};
+use bb_netlist::Order;
+use bb_segment::{Walk, support};
+use bb_terms::{Cell, Plan, PlanFault, Start};
 use std::alloc::Global;
 use std::marker::Model;
 

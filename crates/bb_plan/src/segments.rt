@@ -3,7 +3,7 @@
 ghost use Rattle.std.specs.Prelude.{◌≡◌, ◌<◌, ◌≤◌, ℕ, length, map, All, None, IfOk, OnOk, IfSome, IsErrOf};
 ghost use Rattle.std.specs.List.{AllZip};
 ghost use Rattle.bb_base.specs.Places.{EachAt};
-ghost use Rattle.bb_gf2.specs.Span.{IsIndependent};
+ghost use Rattle.bb_base.specs.Span.{IsIndependent};
 ghost use Rattle.bb_plan.specs.Chain.{column_of_cell};
 ghost use Rattle.bb_plan.specs.Coded.{IsCodedLine, IsIndependentLine, IsFirstDependent};
 
@@ -11,7 +11,7 @@ use crate::chain::Link;
 use crate::lines::Line;
 use arrayvec::ArrayVec;
 use bb_gf2::duals;
-use bb_rules::{PlanFault, Segment};
+use bb_terms::{PlanFault, Segment};
 use std::alloc::Global;
 
 /// The columns of some cells.

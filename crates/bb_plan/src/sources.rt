@@ -7,7 +7,7 @@ ghost use Rattle.bb_plan.specs.Chain.{AreOnNets, HaveOneSource, AreSources};
 
 use crate::chain::Link;
 use arrayvec::ArrayVec;
-use bb_netlist::NetId;
+use bb_base::NetId;
 use std::alloc::{AllocError, Global};
 
 /// Notes each source cell's number at its net.

@@ -1,14 +1,14 @@
 //! Which nets are stops of a plan: those that no gate drives, and those with a Cut cell.
 
 ghost use Rattle.std.specs.Prelude.{◌≡◌, ◌||◌, ◌<◌, ℕ, length, IfOk};
-ghost use Rattle.bb_netlist.specs.Net.{driven};
-ghost use Rattle.bb_netlist.specs.Levels.{AreGates};
-ghost use Rattle.bb_segment.specs.Paths.{is_free};
-ghost use Rattle.bb_segment.specs.Support.{stop_at};
+ghost use Rattle.bb_base.specs.Net.{driven};
+ghost use Rattle.bb_base.specs.Levels.{AreGates};
+ghost use Rattle.bb_terms.specs.Paths.{is_free};
+ghost use Rattle.bb_terms.specs.Support.{stop_at};
 ghost use Rattle.bb_plan.specs.Chain.{has_cut, AreOnNets};
 
 use crate::chain::Link;
-use bb_netlist::{Gate, Netlist};
+use bb_base::{Gate, Netlist};
 use std::alloc::{AllocError, Global};
 
 /// Every net is a stop but the gates' outputs.

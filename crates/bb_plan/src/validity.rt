@@ -1,12 +1,13 @@
 ghost use Rattle.std.specs.Prelude.{◌≡◌, ◌-◌, ◌^◌, ℕ, IfOk, IsErrOf, min};
-ghost use Rattle.bb_netlist.specs.Order.{IsOrder};
-ghost use Rattle.bb_rules.specs.Valid.{IsValidFor};
+ghost use Rattle.bb_base.specs.Order.{IsOrder};
+ghost use Rattle.bb_terms.specs.Valid.{IsValidFor};
 ghost use Rattle.bb_plan.specs.Answered.{IsAnsweredFault};
 
 use crate::walked::walked_segments;
+use bb_base::Netlist;
 use bb_fits::{first_misfit, period};
-use bb_netlist::{Netlist, Order};
-use bb_rules::{Plan, PlanFault, Valid};
+use bb_netlist::Order;
+use bb_terms::{Plan, PlanFault, Valid};
 use std::alloc::Global;
 
 /// The greatest number that fits, where a place is more.

@@ -3,9 +3,9 @@
 ghost use Rattle.std.specs.Prelude.{ℕ, IfOk, OnOk, IsErrOf, Some};
 ghost use Rattle.std.specs.List.{AllZip};
 ghost use Rattle.bb_fits.specs.Answers.{MeetsTo, IsVerdict};
-ghost use Rattle.bb_rules.specs.Plan.{observers};
-ghost use Rattle.bb_rules.specs.Rules.{Conflicts};
-ghost use Rattle.bb_rules.specs.Valid.{IsSegmentOf};
+ghost use Rattle.bb_terms.specs.Plan.{observers};
+ghost use Rattle.bb_terms.specs.Rules.{Conflicts};
+ghost use Rattle.bb_terms.specs.Valid.{IsSegmentOf};
 ghost use Rattle.bb_plan.specs.Answered.{IsAnsweredFault};
 ghost use Rattle.bb_plan.specs.Layout.{IsLayout, IsObservedLine};
 
@@ -13,8 +13,9 @@ use crate::conflicts::{feeders_of, first_clash};
 use crate::layout::{Layout, layout_of};
 use crate::lines::{Line, lines_of};
 use crate::segments::segments_of;
-use bb_netlist::{Netlist, Order};
-use bb_rules::{Plan, PlanFault, Segment};
+use bb_base::Netlist;
+use bb_netlist::Order;
+use bb_terms::{Plan, PlanFault, Segment};
 use std::alloc::{AllocError, Global};
 
 /// The first session in which a register compacts that holds a leaf of a line compacting there.

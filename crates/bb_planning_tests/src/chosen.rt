@@ -3,19 +3,21 @@
 
 ghost use Rattle.std.specs.Prelude.{◌≡◌, ◌≤◌, ◌<◌, ◌+◌, ◌*◌, ◌^◌, IfOk, IfSome, length};
 ghost use Rattle.std.specs.List.{AllByRecursion};
-ghost use Rattle.bb_netlist.specs.Net.{driven};
-ghost use Rattle.bb_netlist.specs.Order.{IsOrder};
+ghost use Rattle.bb_base.specs.Net.{driven};
+ghost use Rattle.bb_base.specs.Order.{IsOrder};
 ghost use Rattle.bb_code.specs.Segments.{IsSegment, sources_of};
 
 use crate::columns::segment_of;
 use crate::netlists::{HALF, SWAP, TOGGLE, read};
 use arrayvec::ArrayVec;
+use bb_base::{NetId, Netlist};
 use bb_code::{Coded, degree};
 use bb_cone::cuts;
 use bb_creg::taps;
-use bb_netlist::{NetId, Netlist, Order};
-use bb_plan::{Cell, Kind, Plan, Register, Session, Valid, validate};
+use bb_netlist::Order;
+use bb_plan::validate;
 use bb_reg::{Draft, Grouped, cells, group, sessions};
+use bb_terms::{Cell, Kind, Plan, Register, Session, Valid};
 use std::alloc::{AllocError, Global};
 use std::process::Abort;
 

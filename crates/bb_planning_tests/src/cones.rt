@@ -2,11 +2,13 @@
 // first use.
 
 ghost use Rattle.std.specs.Prelude.{IfOk, ◌≡◌, length};
-ghost use Rattle.bb_netlist.specs.Net.{driven};
+ghost use Rattle.bb_base.specs.Net.{driven};
 
 use crate::netlists::{TOGGLE, read};
-use bb_cone::{CutFault, Start, Walk, Wide, cuts, support};
-use bb_netlist::{Driver, NetId, Netlist};
+use bb_base::{Driver, NetId, Netlist};
+use bb_cone::{CutFault, cuts};
+use bb_segment::{Walk, Wide, support};
+use bb_terms::Start;
 use std::alloc::{AllocError, Global};
 
 /// Gates by level, not by number: `t` is wide before `m` is, though `m` drives the first gate.

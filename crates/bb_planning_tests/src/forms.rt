@@ -1,12 +1,12 @@
 // The three files of the half adder's plan, both ways, and texts that are of no form.
 
 use arrayvec::ArrayVec;
+use bb_base::NetId;
 use bb_forms::{
     Certificate, CertificateSegment, FormFault, Signature, certificate_text, read_certificate,
     read_schedule, read_signatures, schedule_text, signature_text,
 };
-use bb_netlist::NetId;
-use bb_plan::{Cell, Kind, Plan, Register, Session};
+use bb_terms::{Cell, Kind, Plan, Register, Session};
 use std::alloc::{AllocError, Global};
 
 const SCHEDULE: &str =

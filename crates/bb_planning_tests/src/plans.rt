@@ -1,8 +1,9 @@
 // Plans of the half adder and of small netlists: nets are numbered in the order in which the text declares them.
 
 use crate::netlists::{HALF, TOGGLE, read};
-use bb_netlist::NetId;
-use bb_plan::{Cell, Kind, Plan, PlanFault, Register, Segment, Session, validate};
+use bb_base::NetId;
+use bb_plan::validate;
+use bb_terms::{Cell, Kind, Plan, PlanFault, Register, Segment, Session};
 use std::alloc::{AllocError, Global};
 
 /// A cell's kind, net and column.

@@ -2,8 +2,8 @@
 // period from a search by another program.
 
 ghost use Rattle.std.specs.Prelude.{◌≡◌, [], ◌∷◌, true, false};
-ghost use Rattle.bb_creg.specs.Register.{IsDegree, IsMask};
-ghost use Rattle.bb_creg.specs.Signature.{signature};
+ghost use Rattle.bb_terms.specs.Register.{IsDegree, IsMask};
+ghost use Rattle.bb_terms.specs.Signature.{signature};
 
 use bb_creg::{Short, next, taps, walk};
 use std::process::Abort;

@@ -2,8 +2,9 @@
 
 use crate::netlists::{HALF, TOGGLE, read};
 use crate::plans::{Row, register};
-use bb_plan::{Kind, Plan, Session, validate};
+use bb_plan::validate;
 use bb_sign::signatures;
+use bb_terms::{Kind, Plan, Session};
 use std::alloc::{AllocError, Global};
 
 /// A wire.

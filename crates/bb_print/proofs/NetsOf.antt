@@ -2,8 +2,8 @@
 use Rattle.std.proofs.Common.{◌<◌, ℕ, List, ◌++◌, length, map}
 use Rattle.std.specs.List.{AllByRecursion, flat_map}
 use Rattle.std.proofs.lemmas.List.Elements.{recursion_from_All}
-use Rattle.bb_netlist.specs.Net.{Gate, Flop, driven, reads}
-use Rattle.bb_net.specs.Named.{Named, IsNamed}
+use Rattle.bb_base.specs.Net.{Gate, Flop, driven, reads}
+use Rattle.bb_base.specs.Named.{Named, IsNamed}
 use Rattle.bb_base.proofs.Lists.{all_front, all_back, all_map, all_parts}
 
 module _ (a : Named) (h : IsNamed a) where

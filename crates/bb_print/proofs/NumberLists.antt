@@ -4,8 +4,8 @@ use Rattle.std.specs.Prelude.{filter, count_by}
 use Rattle.std.specs.List.{AllByRecursion, range_with_len, position_or_len}
 use Rattle.std.proofs.lemmas.Bool.Decides.{nat_tests}
 use Rattle.std.proofs.lemmas.List.Elements.{All-from_recursion}
-use Rattle.bb_netlist.specs.Net.{times}
-use Rattle.bb_netlist.proofs.TimesLemmas.{times_head}
+use Rattle.bb_base.specs.Net.{times}
+use Rattle.bb_base.proofs.TimesLemmas.{times_head}
 use Rattle.bb_drive.specs.Nets.{has_bit}
 use Rattle.bb_spell.proofs.Rising.{Rising}
 use Rattle.bb_print.proofs.Sieves.{or_left, or_right, or_parts, weaken, filter_all_of}

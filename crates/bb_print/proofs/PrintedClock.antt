@@ -5,18 +5,18 @@ use Rattle.std.specs.List.{AllByRecursion, range_with_len}
 use Rattle.std.specs.Option.{option_map, option_or}
 use Rattle.std.proofs.lemmas.Option.{same_Some}
 use Rattle.bb_base.specs.declared.variable.BitName.{BitName}
-use Rattle.bb_netlist.specs.Net.{Gate, Flop, renamed, renamed_gate, renamed_flop}
-use Rattle.bb_net.specs.Named.{Named, IsNamed}
+use Rattle.bb_base.specs.Net.{Gate, Flop, renamed, renamed_gate, renamed_flop}
+use Rattle.bb_base.specs.Named.{Named, IsNamed}
 use Rattle.bb_base.proofs.Lists.{all_join, all_map_back, map_twice}
 use Rattle.bb_fault.specs.declared.fault.ElabFault.TheVariants.{TwoClocks, ClockNotInput, ClockAsData}
 use Rattle.bb_fault.specs.Firsts.{on_some}
 use Rattle.bb_base.specs.Variables.{bit_count}
-use Rattle.bb_drive.specs.Work.{Work, Clocked}
+use Rattle.bb_fault.specs.Work.{Work, Clocked}
 use Rattle.bb_drive.specs.Nets as elab
 use Rattle.bb_drive.specs.Nets.{input_bits, output_bits, has_bit, nets}
 use Rattle.bb_drive.specs.Clock.{is_buf, first_of, copied_by, origin_within, origin, clock_pins, clock_not_input, clocks_fault, two_clocks, clock_of, is_clock, read_as_data, clock_as_data, clock_fault}
 use Rattle.bb_drive.specs.Clock.{is_data}
-use Rattle.bb_assemble.specs.NamedOf.{kept, by_bits}
+use Rattle.bb_drive.specs.NamedOf.{kept, by_bits}
 use Rattle.bb_spell.proofs.Rising.{Rising, range_rises}
 use Rattle.bb_print.proofs.PrintedBits.{number_of}
 use Rattle.bb_print.proofs.PrintedWork.{net_number, clocked_by, flops_by}

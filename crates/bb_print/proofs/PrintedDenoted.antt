@@ -9,19 +9,19 @@ use Rattle.std.proofs.lemmas.List.{get_or-map, get_or_default}
 use Rattle.std.proofs.lemmas.List.Elements.{All-from_recursion, recursion_from_All, All-map}
 use Rattle.std.proofs.lemmas.List.Sums.{passes_at_first}
 use Rattle.bb_base.specs.declared.variable.BitName.{BitName}
-use Rattle.bb_netlist.specs.Net.{Gate, Flop, renamed, renamed_gate, renamed_flop}
+use Rattle.bb_base.specs.Net.{Gate, Flop, renamed, renamed_gate, renamed_flop}
 use Rattle.bb_base.specs.Variables.{Entry, IsBit, range_width, bit_count, limit_of, StandsBefore}
-use Rattle.bb_net.specs.Named.{Named, IsNamed, design_of, name_of_net, IsByBits}
-use Rattle.bb_netlist.specs.Order.{IsOrder, HasOrder}
+use Rattle.bb_base.specs.Named.{Named, IsNamed, design_of, name_of_net, IsByBits}
+use Rattle.bb_base.specs.Order.{IsOrder, HasOrder}
 use Rattle.bb_base.proofs.Lists.{map_twice, length_map}
 use Rattle.bb_parse.specs.declared.syntax.Module.{Module}
-use Rattle.bb_width.specs.Text.{text_fault}
+use Rattle.bb_scope.specs.Text.{text_fault}
 use Rattle.bb_drive.specs.Nets.{bit_name, has_bit, all_variables}
 use Rattle.bb_drive.specs.Clock.{clock_of}
-use Rattle.bb_assemble.specs.NamedOf.{kept, named_of}
-use Rattle.bb_assemble.specs.NamedOf.{place_among, netlist_by_number}
-use Rattle.bb_elab.specs.Outcome.{work_in, variables_in, net_fault, first_fault, denoted, IsOutcome}
-use Rattle.bb_elab.proofs.CountedFault.{counted_first}
+use Rattle.bb_drive.specs.NamedOf.{kept, named_of}
+use Rattle.bb_drive.specs.NamedOf.{place_among, netlist_by_number}
+use Rattle.bb_meaning.specs.Outcome.{work_in, variables_in, net_fault, first_fault, denoted, IsOutcome}
+use Rattle.bb_meaning.proofs.CountedFault.{counted_first}
 use Rattle.bb_print.specs.Elaborated.{HasNamesFor, IsElaborable}
 use Rattle.bb_canon_parse.specs.Printed.{spelled_module}
 use Rattle.bb_spell.proofs.Rising.{Rising}

@@ -7,7 +7,7 @@ use Rattle.std.proofs.lemmas.Bool.Decides.{nat_tests}
 use Rattle.bb_base.specs.declared.operator.Op.{Op}
 use Rattle.bb_base.specs.declared.operator.Op.TheVariants.{And, Nand, Or, Nor, Xor, Xnor, Not, Buf, Zero, One}
 use Rattle.bb_base.specs.declared.variable.BitName.{BitName}
-use Rattle.bb_netlist.specs.Net.{Gate, Flop, renamed_gate, renamed_flop, HasArity}
+use Rattle.bb_base.specs.Net.{Gate, Flop, renamed_gate, renamed_flop, HasArity}
 use Rattle.bb_base.specs.Operators.{IsArity}
 use Rattle.bb_base.specs.Variables.{Entry, Bit, IsBit, bit_of, bit_in}
 use Rattle.bb_parse.specs.declared.syntax.Item.{Item}
@@ -17,19 +17,19 @@ use Rattle.bb_scope.specs.Names.{has_name, steps_names, item_names}
 use Rattle.bb_scope.specs.Declarations.{item_decls}
 use Rattle.bb_scope.specs.Cells.{Kind, kind_of, is_plain, unknown_item}
 use Rattle.bb_scope.specs.References.{ref_span, ref_fault, width_of, span_fault}
-use Rattle.bb_width.specs.Sizes.{expr_fault, of_nets, width, differs}
-use Rattle.bb_width.specs.Parts.{item_fault, prim_fault, are_right_terms}
+use Rattle.bb_scope.specs.Sizes.{expr_fault, of_nets, width, differs}
+use Rattle.bb_scope.specs.Parts.{item_fault, prim_fault, are_right_terms}
 use Rattle.bb_scope.specs.Terminals.{out_count}
-use Rattle.bb_drive.specs.Work.{Work, Clocked}
-use Rattle.bb_gates.specs.Making.{Read, grounded, as_value, terminal_made, terminals_made, driven_bits, prim_made, all_driven, nets_of, item_made, copied_onto, const_bits}
+use Rattle.bb_fault.specs.Work.{Work, Clocked}
+use Rattle.bb_scope.specs.Making.{Read, grounded, as_value, terminal_made, terminals_made, driven_bits, prim_made, all_driven, nets_of, item_made, copied_onto, const_bits}
 use Rattle.bb_scope.specs.References.{ref_bits}
 use Rattle.bb_canon_parse.specs.Printed as printed
 use Rattle.bb_canon_parse.specs.Printed.{reference, bit_steps}
 use Rattle.bb_print.proofs.PrintedBits.{Differ, number_of, span_is, bits_are}
 use Rattle.bb_print.proofs.PrintedNames.{names_of, has_at}
 use Rattle.bb_print.proofs.Sieves.{or_none}
-use Rattle.bb_gates.specs.Making.{flip_flop_made}
-use Rattle.bb_gates.specs.Making.{To}
+use Rattle.bb_scope.specs.Making.{flip_flop_made}
+use Rattle.bb_scope.specs.Making.{To}
 
 -- a bit's text names a bit of a variable, which has this number
 pub record ItemStands (vs : List Entry) (b : Bit) (k : ℕ) : Type 0 where

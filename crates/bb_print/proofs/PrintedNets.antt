@@ -9,19 +9,19 @@ use Rattle.std.proofs.lemmas.List.Folds.{list_any-append}
 use Rattle.bb_base.specs.declared.variable.BitName.{BitName}
 use Rattle.bb_base.specs.declared.variable.Role.{Role}
 use Rattle.bb_base.specs.declared.variable.Role.TheVariants.{Input, Output, Wire}
-use Rattle.bb_netlist.specs.Net.{Gate, Flop, times, renamed_gate}
+use Rattle.bb_base.specs.Net.{Gate, Flop, times, renamed_gate}
 use Rattle.bb_base.specs.Variables.{Entry, IsBit, is_input, is_output, range_width, role_bits, bit_count}
-use Rattle.bb_net.specs.Named.{Named, IsNamed, name_of_net}
+use Rattle.bb_base.specs.Named.{Named, IsNamed, name_of_net}
 use Rattle.bb_base.proofs.Lists.{all_join, all_map_back, map_twice}
-use Rattle.bb_netlist.proofs.TimesLemmas.{times_join}
+use Rattle.bb_base.proofs.TimesLemmas.{times_join}
 use Rattle.bb_fault.specs.declared.fault.ElabFault.TheVariants.{TwoDrivers, Undriven}
-use Rattle.bb_drive.specs.Work.{Work, Clocked}
+use Rattle.bb_fault.specs.Work.{Work, Clocked}
 use Rattle.bb_drive.specs.Nets as elab
 use Rattle.bb_drive.specs.Nets.{input_bits, output_bits, has_bit, nets, made_names, made_variable, all_variables, driver_fault, two_drivers, undriven}
 use Rattle.bb_print.proofs.PrintedBits.{number_of, one_number, bit_below}
 use Rattle.bb_print.proofs.PrintedPorts.{names_numbers, names_stand, names_but, names_apart, numbers_but, bits_have, bits_once}
 use Rattle.bb_print.proofs.PrintedWork.{net_number, clocked_by, flops_by, net_bit}
-use Rattle.bb_netlist.proofs.Renamed.{ins_renamed}
+use Rattle.bb_base.proofs.Renamed.{ins_renamed}
 use Rattle.bb_print.proofs.Renumbered.{one_place, times_same}
 use Rattle.bb_print.proofs.NetsOf.{input_nets, out_nets, q_nets, output_nets, in_nets, d_nets}
 use Rattle.bb_print.proofs.Sieves.{found_none, or_left, or_none, or_parts}

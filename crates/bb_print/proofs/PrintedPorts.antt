@@ -9,11 +9,11 @@ use Rattle.std.proofs.lemmas.List.Folds.{list_any-append}
 use Rattle.bb_base.specs.declared.variable.BitName.{BitName}
 use Rattle.bb_base.specs.declared.variable.Role.{Role}
 use Rattle.bb_base.specs.declared.variable.Variable.{Variable}
-use Rattle.bb_netlist.specs.Net.{times}
+use Rattle.bb_base.specs.Net.{times}
 use Rattle.bb_base.specs.Variables.{Entry, IsBit, range_width, places_but, bit_at, data_bits, role_bits, bit_eq, bit_count}
 use Rattle.bb_base.proofs.Lists.{map_join, all_join, get_back}
 use Rattle.bb_base.proofs.BitLemmas.{same_bits, bit_eq_itself}
-use Rattle.bb_netlist.proofs.TimesLemmas.{times_join, times_range, times_range_before}
+use Rattle.bb_base.proofs.TimesLemmas.{times_join, times_range, times_range_before}
 use Rattle.bb_drive.specs.Nets.{bits_from, has_bit}
 use Rattle.bb_print.proofs.PrintedBits.{bit_number, number_of, one_number}
 use Rattle.bb_print.proofs.Sieves.{all_true, filter_all, filter_map, filter_same, or_left, or_right}

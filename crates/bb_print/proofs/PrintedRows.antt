@@ -5,14 +5,14 @@ use Rattle.bb_base.specs.declared.variable.Role.{Role}
 use Rattle.bb_base.specs.declared.variable.Role.TheVariants.{Input, Output, Wire}
 use Rattle.bb_base.specs.declared.variable.BitName.{BitName}
 use Rattle.bb_base.specs.Variables.{Entry}
-use Rattle.bb_net.specs.Named.{Named, design_of}
+use Rattle.bb_base.specs.Named.{Named, design_of}
 use Rattle.bb_parse.specs.declared.syntax.Step.{Step}
 use Rattle.bb_parse.specs.declared.syntax.Step.TheVariants as step
 use Rattle.bb_parse.specs.declared.syntax.Conns.TheVariants.{Places}
 use Rattle.bb_parse.specs.declared.syntax.Item.{Item}
 use Rattle.bb_parse.specs.declared.syntax.Item.TheVariants as item
 use Rattle.bb_parse.specs.declared.syntax.Header.TheVariants.{Plain}
-use Rattle.bb_elab.specs.Outcome.{first_fault, denoted}
+use Rattle.bb_meaning.specs.Outcome.{first_fault, denoted}
 use Rattle.bb_canon_parse.specs.Printed.{spelled_module}
 
 abbrev variable : List ℕ → Option (ℕ × ℕ) → Role → Entry

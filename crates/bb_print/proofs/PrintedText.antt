@@ -19,12 +19,12 @@ use Rattle.bb_scope.specs.Declarations.{item_decls, declarations, clashes, is_od
 use Rattle.bb_scope.specs.Variables.{variables, entry_of}
 use Rattle.bb_fault.specs.Limits.{too_many}
 use Rattle.bb_scope.specs.Cells.{unknown_item, unknown_cell}
-use Rattle.bb_width.specs.Parts.{item_fault, bad_part, all_bits, too_many_bits, too_many_nets}
-use Rattle.bb_width.specs.Text.{text_fault, name_fault, part_fault}
+use Rattle.bb_scope.specs.Parts.{item_fault, bad_part, all_bits, too_many_bits, too_many_nets}
+use Rattle.bb_scope.specs.Text.{text_fault, name_fault, part_fault}
 use Rattle.bb_fault.proofs.Keys.{same_name}
 use Rattle.std.specs.Str.{bytes_eq}
-use Rattle.bb_gates.specs.Making.{work_of}
-use Rattle.bb_meaning.proofs.Counting.{module-fresh}
+use Rattle.bb_scope.specs.Making.{work_of}
+use Rattle.bb_scope.proofs.Counting.{module-fresh}
 use Rattle.bb_base.proofs.Lists.{all_join, all_map_back}
 use Rattle.bb_spell.specs.Canonical.{port_names}
 use Rattle.bb_canon_parse.specs.Printed.{declared, by_lines}

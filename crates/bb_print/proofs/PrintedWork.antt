@@ -5,16 +5,16 @@ use Rattle.std.specs.Option.{option_map}
 use Rattle.std.proofs.lemmas.List.Elements.{recursion_from_All}
 use Rattle.bb_lex.specs.Text.{number}
 use Rattle.bb_base.specs.declared.variable.BitName.{BitName}
-use Rattle.bb_netlist.specs.Net.{Gate, Flop, renamed_gate, renamed_flop, HasArity}
+use Rattle.bb_base.specs.Net.{Gate, Flop, renamed_gate, renamed_flop, HasArity}
 use Rattle.bb_base.specs.Variables.{Entry, Bit, IsBit, bit_of, bit_count, limit_of}
-use Rattle.bb_net.specs.Named.{Named, IsNamed, design_of, net_text, name_of_net}
+use Rattle.bb_base.specs.Named.{Named, IsNamed, design_of, net_text, name_of_net}
 use Rattle.bb_base.proofs.Lists.{all_join}
 use Rattle.bb_parse.specs.declared.syntax.Item.{Item}
 use Rattle.bb_scope.specs.Variables.{variables}
-use Rattle.bb_width.specs.Text.{text_fault}
-use Rattle.bb_drive.specs.Work.{Work, Clocked}
-use Rattle.bb_gates.specs.Making.{item_made, items_made, work_of}
-use Rattle.bb_elab.specs.Outcome.{work_in}
+use Rattle.bb_scope.specs.Text.{text_fault}
+use Rattle.bb_fault.specs.Work.{Work, Clocked}
+use Rattle.bb_scope.specs.Making.{item_made, items_made, work_of}
+use Rattle.bb_meaning.specs.Outcome.{work_in}
 use Rattle.bb_canon_parse.specs.Printed.{declared, stated, clocked, by_lines, flops_by_lines, spelled_module}
 use Rattle.bb_print.proofs.PrintedBits.{Differ, differ_from, number_of}
 use Rattle.bb_print.proofs.PrintedNames.{PortsFirst, ports_first}

@@ -9,14 +9,14 @@ use Rattle.std.proofs.lemmas.List.{get_or_default}
 use Rattle.std.proofs.lemmas.List.Elements.{All-from_recursion, All-map, All-weaker}
 use Rattle.std.proofs.lemmas.List.Folds.{list_all-map}
 use Rattle.bb_base.specs.declared.variable.BitName.{BitName}
-use Rattle.bb_netlist.specs.Net.{Gate, Flop, renamed, renamed_gate, renamed_flop, driven, reads, times, HasArity}
+use Rattle.bb_base.specs.Net.{Gate, Flop, renamed, renamed_gate, renamed_flop, driven, reads, times, HasArity}
 use Rattle.bb_base.specs.Operators.{IsArity}
 use Rattle.bb_base.specs.Variables.{Bit, IsBit, bit_of}
-use Rattle.bb_net.specs.Named.{Named, IsNamed, design_of, name_of_net, net_text}
-use Rattle.bb_netlist.specs.Order.{IsOrder, HasLevel, is_within, drivers, is_empty}
+use Rattle.bb_base.specs.Named.{Named, IsNamed, design_of, name_of_net, net_text}
+use Rattle.bb_base.specs.Order.{IsOrder, HasLevel, is_within, drivers, is_empty}
 use Rattle.bb_base.proofs.Lists.{all_join, all_map_back, map_join, map_twice, same_map_at, length_map, get_map}
-use Rattle.bb_netlist.proofs.Renamed.{driven_renamed, reads_renamed}
-use Rattle.bb_netlist.proofs.TimesLemmas.{times_head, times_past, length_once}
+use Rattle.bb_base.proofs.Renamed.{driven_renamed, reads_renamed}
+use Rattle.bb_base.proofs.TimesLemmas.{times_head, times_past, length_once}
 use Rattle.bb_print.proofs.NetsOf.{driven_nets, read_nets, input_nets, output_nets, gate_outs, gate_ins, flop_qs, flop_ds}
 use Rattle.bb_print.proofs.Sieves.{item_at}
 

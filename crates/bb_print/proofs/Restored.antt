@@ -1,11 +1,11 @@
 -- A netlist's canonical text denotes a netlist of its design.
 use Rattle.std.proofs.Common.{◌≡◌, inl, inr, ℕ, ◌≤◌, List, ◌++◌, length, map, true, Result, Ok, Err, sym, ap, ◌∙◌, arith, subst, Bool, false}
 use Rattle.std.proofs.lemmas.List.{append_cancel_left, length-append}
-use Rattle.bb_netlist.specs.Net.{Gate, Flop}
-use Rattle.bb_net.specs.Named.{Named, IsNamed, design_of}
+use Rattle.bb_base.specs.Net.{Gate, Flop}
+use Rattle.bb_base.specs.Named.{Named, IsNamed, design_of}
 use Rattle.bb_net.proofs.CountLemmas.{nets_few}
 use Rattle.bb_base.proofs.Lists.{length_map}
-use Rattle.bb_netlist.proofs.CycleLemmas.{no_cycle}
+use Rattle.bb_base.proofs.CycleLemmas.{no_cycle}
 use Rattle.bb_netlist.proofs.WalkLemmas.{loop_cycles}
 use Rattle.bb_lex.proofs.Spelled.{denoted_once}
 use Rattle.bb_parse.specs.declared.syntax.Module.{Module}
@@ -13,11 +13,11 @@ use Rattle.bb_parse.specs.Meaning.{Denotes}
 use Rattle.bb_grammar.proofs.Exact.{one_module}
 use Rattle.bb_fault.specs.declared.fault.ElabFault.{ElabFault}
 use Rattle.bb_base.specs.Variables.{bit_count, limit_of}
-use Rattle.bb_elab.specs.Outcome.{denoted, IsLooped, IsOutcome}
+use Rattle.bb_meaning.specs.Outcome.{denoted, IsLooped, IsOutcome}
 use Rattle.bb_spell.specs.Canonical.{canonical_text}
 use Rattle.bb_spell.specs.Limits.{IsNumbered}
 use Rattle.bb_canon_parse.specs.Printed.{spelled_module}
-use Rattle.bb_parse.specs.Texts.{IsModuleOf}
+use Rattle.bb_grammar.specs.Texts.{IsModuleOf}
 use Rattle.bb_print.specs.Elaborated.{IsElaborable, Restores}
 use Rattle.bb_spell.proofs.Texts.{design_text}
 use Rattle.bb_canon_parse.proofs.Derived.{text_denotes}

@@ -1,11 +1,11 @@
 -- What a canonical text elaborates to, where names of one's own are allowed and where not.
 use Rattle.std.specs.Prelude.{◌≡◌, ◌≤◌, ℕ, Bool, true, false, List, All, Result, Ok}
-use Rattle.bb_net.specs.Named.{Named, design_of, IsByBits}
+use Rattle.bb_base.specs.Named.{Named, design_of, IsByBits}
 use Rattle.bb_fault.specs.declared.fault.ElabFault.{ElabFault}
 use Rattle.bb_base.specs.OwnNames.{is_reserved}
 use Rattle.bb_base.specs.Variables.{bit_count, limit_of}
-use Rattle.bb_netlist.specs.Order.{HasOrder}
-use Rattle.bb_elab.specs.Denotes.{ElaboratesTo}
+use Rattle.bb_base.specs.Order.{HasOrder}
+use Rattle.bb_meaning.specs.Denotes.{ElaboratesTo}
 
 -- names of one's own are allowed, or neither the module nor a variable has one
 abbrev pub HasNamesFor : Bool → Named → Type 0

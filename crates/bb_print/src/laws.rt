@@ -2,8 +2,8 @@
 
 ghost use Rattle.std.specs.Prelude.{◌≡◌, ◌≤◌, Bool, None, Ok};
 ghost use Rattle.bb_base.specs.Variables.{bit_count, limit_of};
-ghost use Rattle.bb_net.specs.Named.{Named, IsNamed, design_of, IsByBits};
-ghost use Rattle.bb_elab.specs.Outcome.{first_fault, denoted, IsOutcome};
+ghost use Rattle.bb_base.specs.Named.{Named, IsNamed, design_of, IsByBits};
+ghost use Rattle.bb_meaning.specs.Outcome.{first_fault, denoted, IsOutcome};
 ghost use Rattle.bb_spell.specs.Canonical.{canonical_text};
 ghost use Rattle.bb_canon_parse.specs.Printed.{spelled_module};
 ghost use Rattle.bb_print.specs.Elaborated.{HasNamesFor, IsElaborable, Restores};

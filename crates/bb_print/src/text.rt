@@ -1,5 +1,5 @@
 ghost use Rattle.std.specs.Prelude.{◌≡◌, ◌++◌, Bool, List, ℕ, OnOk, OnErr};
-ghost use Rattle.bb_net.specs.Named.{design_of};
+ghost use Rattle.bb_base.specs.Named.{design_of};
 ghost use Rattle.bb_spell.specs.Canonical.{canonical_text};
 ghost use Rattle.bb_print.specs.Elaborated.{IsElaborable, Restores};
 

@@ -3,9 +3,9 @@ use Rattle.std.proofs.Common.{◌≡◌, ◌⊎◌, ◌↔◌, inl, inr, ℕ, Li
 use Rattle.std.specs.Prelude.{Result, IfOk, IsErrOf}
 use Rattle.std.specs.Result.{IsErrAnd}
 use Rattle.std.specs.List.{AllByRecursion}
-use Rattle.bb_lex.specs.declared.token.Token.{Token}
-use Rattle.bb_lex.specs.declared.fault.LexFault.{LexFault}
-use Rattle.bb_lex.specs.declared.fault.LexFault.TheVariants as faults
+use Rattle.bb_base.specs.declared.token.Token.{Token}
+use Rattle.bb_base.specs.declared.lex_fault.LexFault.{LexFault}
+use Rattle.bb_base.specs.declared.lex_fault.LexFault.TheVariants as faults
 use Rattle.bb_lex.specs.Machine as lexing
 use Rattle.bb_lex.specs.Text as lexical
 use Rattle.bb_parse.specs.declared.syntax.Module.{Module}
@@ -14,9 +14,10 @@ use Rattle.bb_parse.specs.declared.fault.ParseFault.TheVariants as grammar
 use Rattle.bb_parse.specs.Machine as parsing
 use Rattle.bb_parse.specs.Standing as standing
 use Rattle.bb_parse.specs.Meaning as meaning
-use Rattle.bb_lex.specs.Ranges.{IsProper, IsSound}
+use Rattle.bb_base.specs.Tokens.{IsProper}
+use Rattle.bb_lex.specs.Ranges.{IsSound}
 use Rattle.bb_parse.specs.Sound.{IsSoundModule}
-use Rattle.bb_parse.specs.Texts.{IsModuleOf, HasBadToken, HasLexFault, IsUnreadable}
+use Rattle.bb_grammar.specs.Texts.{IsModuleOf, HasBadToken, HasLexFault, IsUnreadable}
 use Rattle.bb_read.specs.declared.fault.ReadFault.TheVariants as read
 use Rattle.bb_read.specs.Faults.{of_lex, of_parse}
 use Rattle.bb_read.specs.TextReading.{PartRead, HasRead, reading}

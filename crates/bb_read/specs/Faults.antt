@@ -1,6 +1,6 @@
 -- What a reader answers of the faults of a text's tokens and of its grammar (this project's own).
-use Rattle.bb_lex.specs.declared.fault.LexFault.{LexFault}
-use Rattle.bb_lex.specs.declared.fault.LexFault.TheVariants as lexical
+use Rattle.bb_base.specs.declared.lex_fault.LexFault.{LexFault}
+use Rattle.bb_base.specs.declared.lex_fault.LexFault.TheVariants as lexical
 use Rattle.bb_parse.specs.declared.fault.ParseFault.{ParseFault}
 use Rattle.bb_parse.specs.declared.fault.ParseFault.TheVariants as grammar
 use Rattle.bb_read.specs.declared.fault.ReadFault.{ReadFault}

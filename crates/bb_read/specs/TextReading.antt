@@ -1,9 +1,9 @@
 -- Reading a text in pieces: where its lexer and its parser stand.
 use Rattle.std.specs.Prelude.{◌≡◌, ℕ, List, [], Ok}
 use Rattle.std.specs.List.{AllByRecursion}
-use Rattle.bb_lex.specs.declared.token.Token.{Token}
+use Rattle.bb_base.specs.declared.token.Token.{Token}
 use Rattle.bb_lex.specs.Machine as lexing
-use Rattle.bb_lex.specs.Ranges.{IsProper}
+use Rattle.bb_base.specs.Tokens.{IsProper}
 use Rattle.bb_parse.specs.Machine as parsing
 use Rattle.bb_parse.specs.Standing as standing
 

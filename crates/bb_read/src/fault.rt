@@ -2,8 +2,8 @@ ghost use Rattle.std.specs.Prelude.{◌≡◌};
 ghost use Rattle.bb_read.specs.Faults.{of_lex, of_parse};
 ghost use Rattle.bb_read.specs.declared.fault.ReadFault.TheVariants.{NoMemory};
 
+use bb_base::LexFault;
 use bb_fault::ElabFault;
-use bb_lex::LexFault;
 use bb_parse::ParseFault;
 use std::alloc::AllocError;
 

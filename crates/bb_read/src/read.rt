@@ -1,7 +1,7 @@
 ghost use Rattle.std.specs.Prelude.{◌≡◌, ◌<◌, ◌≤◌, ℕ, List, length, vec_len, IfOk, IsErrOf};
 ghost use Rattle.bb_edge.specs.Causes.{Rose};
 ghost use Rattle.bb_edge.specs.Told.{Held};
-ghost use Rattle.bb_lex.specs.declared.fault.LexFault.{LexFault as LexValue};
+ghost use Rattle.bb_base.specs.declared.lex_fault.LexFault.{LexFault as LexValue};
 ghost use Rattle.bb_parse.specs.declared.fault.ParseFault.{ParseFault as ParseValue};
 ghost use Rattle.bb_fault.specs.declared.fault.ElabFault.{ElabFault as ElabValue};
 

@@ -1,20 +1,21 @@
 //! The module that a text is, or the first thing that breaks it.
 
 ghost use Rattle.std.specs.Prelude.{◌≡◌, [], ◌++◌, ℕ, List, Ok, Err, IfOk, OnOk, IsErrOf};
-ghost use Rattle.bb_lex.specs.declared.fault.LexFault.{LexFault as LexValue};
-ghost use Rattle.bb_lex.specs.declared.token.Token.{Token as TokenValue};
+ghost use Rattle.bb_base.specs.declared.lex_fault.LexFault.{LexFault as LexValue};
+ghost use Rattle.bb_base.specs.declared.token.Token.{Token as TokenValue};
 ghost use Rattle.bb_parse.specs.declared.fault.ParseFault.{ParseFault as ParseValue};
 ghost use Rattle.bb_parse.specs.declared.fault.ParseFault.TheVariants as grammar;
 ghost use Rattle.bb_parse.specs.Machine as parsing;
 ghost use Rattle.bb_parse.specs.Standing as standing;
 ghost use Rattle.bb_parse.specs.Sound.{IsSoundModule};
-ghost use Rattle.bb_parse.specs.Texts.{IsModuleOf, HasLexFault, HasParseFault};
+ghost use Rattle.bb_grammar.specs.Texts.{IsModuleOf, HasLexFault, HasParseFault};
 ghost use Rattle.bb_fault.specs.declared.fault.ElabFault.{ElabFault as ElabValue};
 ghost use Rattle.bb_read.specs.TextReading.{HasRead, reading};
 
 use crate::fault::ReadFault;
+use bb_base::Token;
 use bb_grammar::{cut_short, first_bad_token, in_parts, in_range as sound_modules, one_module};
-use bb_lex::{Lexer, Token, a_fault_stands, any_cutting, in_range, one_reading};
+use bb_lex::{Lexer, a_fault_stands, any_cutting, in_range, one_reading};
 use bb_parse::{Module, ParseFault, Parser};
 use std::alloc::Global;
 

@@ -1,12 +1,13 @@
 //! What modules compute in a cycle: the bits of outputs for those of inputs, by the rules of the language.
 
 ghost use Rattle.std.specs.Prelude.{IfOk, IfSome};
-ghost use Rattle.bb_netlist.specs.Order.{IsOrder};
+ghost use Rattle.bb_base.specs.Order.{IsOrder};
 
 use bb_edge::MemStore;
 use bb_eqn::settle;
 use bb_named::read_named;
-use bb_net::{Named, Order};
+use bb_net::Named;
+use bb_netlist::Order;
 use std::alloc::{AllocError, Global};
 use std::process::Abort;
 use std::test::Fail;

@@ -1,8 +1,10 @@
 //! What the text of a file denotes: nets by their numbers, gates in their order, and the drivers that nets are found with.
 
+use bb_base::{Driver, NetId};
 use bb_edge::MemStore;
 use bb_named::read_named;
-use bb_net::{Driver, Named, NetId, Order};
+use bb_net::Named;
+use bb_netlist::Order;
 use std::alloc::{AllocError, Global};
 use std::test::Fail;
 

@@ -5,8 +5,8 @@ use Rattle.std.specs.List.{AllByRecursion, fold, list_any}
 use Rattle.std.proofs.lemmas.Bool.Decides.{nat_tests}
 use Rattle.std.proofs.lemmas.List.Quantifiers.{all_pairs_push}
 use Rattle.bb_base.proofs.Lists.{all_join, all_map_back, length_map}
-use Rattle.bb_rules.specs.declared.plan.Cell.{Cell}
-use Rattle.bb_rules.specs.Plan.{RegisterValue}
+use Rattle.bb_terms.specs.declared.plan.Cell.{Cell}
+use Rattle.bb_terms.specs.Plan.{RegisterValue}
 use Rattle.bb_reg.specs.Draft.{DraftValue}
 use Rattle.bb_reg.specs.Chosen.{Seen, first_fit, fitted, clash, conflict, in_runs, in_registers, numbered_sessions, seen_cells, register_of, grouped_of}
 

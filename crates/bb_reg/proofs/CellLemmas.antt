@@ -8,14 +8,14 @@ use Rattle.std.proofs.lemmas.List.Kept.{AllPairs-cons, AllPairs-filter}
 use Rattle.bb_base.proofs.Contained.{here, there, of_all, to_all}
 use Rattle.bb_base.proofs.Distinct.{Distinct, few_distinct}
 use Rattle.bb_base.proofs.Lists.{all_join, all_map_back, length_map}
-use Rattle.bb_netlist.specs.Net.{Gate, Flop, Netlist, driven, IsNetlist}
-use Rattle.bb_netlist.proofs.GateLemmas.{at_most_one, outs_times}
-use Rattle.bb_netlist.proofs.TimesLemmas.{times_join, once_distinct}
-use Rattle.bb_segment.specs.Paths.{is_free}
-use Rattle.bb_segment.specs.Cuts.{is_stop_with}
+use Rattle.bb_base.specs.Net.{Gate, Flop, Netlist, driven, IsNetlist}
+use Rattle.bb_base.proofs.GateLemmas.{at_most_one, outs_times}
+use Rattle.bb_base.proofs.TimesLemmas.{times_join, once_distinct}
+use Rattle.bb_terms.specs.Paths.{is_free}
+use Rattle.bb_terms.specs.Cuts.{is_stop_with}
 use Rattle.bb_segment.proofs.SetLemmas.{up_apart, true_member, of_filter}
-use Rattle.bb_rules.specs.declared.kind.Kind.TheVariants.{Input, State, Split, Cut, Watch, Output}
-use Rattle.bb_rules.proofs.NetLemmas.{q_within, free_q, q_net}
+use Rattle.bb_terms.specs.declared.kind.Kind.TheVariants.{Input, State, Split, Cut, Watch, Output}
+use Rattle.bb_terms.proofs.NetLemmas.{q_within, free_q, q_net}
 use Rattle.bb_reg.specs.Draft.{DraftValue, AreCells, HasLeavesWith, bare_cell, those}
 use Rattle.bb_reg.proofs.NarrowLemmas.{driven_within}
 use Rattle.bb_reg.proofs.LineLemmas.{zip_long}

@@ -4,15 +4,15 @@ use Rattle.std.specs.Prelude.{◌↔◌, filter}
 use Rattle.std.specs.List.{AllZip, AllByRecursion}
 use Rattle.std.proofs.lemmas.Bool.Decides.{nat_tests}
 use Rattle.bb_base.proofs.Distinct.{Distinct}
-use Rattle.bb_netlist.specs.Net.{Gate, Flop, Netlist, IsNetlist}
-use Rattle.bb_netlist.proofs.GateLemmas.{driven_distinct}
-use Rattle.bb_segment.specs.Paths.{AtNet, IsLeaf}
-use Rattle.bb_segment.specs.Support.{AreLeaves, stop_at}
-use Rattle.bb_segment.specs.Cuts.{is_stop_with}
+use Rattle.bb_base.specs.Net.{Gate, Flop, Netlist, IsNetlist}
+use Rattle.bb_base.proofs.GateLemmas.{driven_distinct}
+use Rattle.bb_terms.specs.Paths.{AtNet, IsLeaf}
+use Rattle.bb_terms.specs.Support.{AreLeaves, stop_at}
+use Rattle.bb_terms.specs.Cuts.{is_stop_with}
 use Rattle.bb_segment.proofs.SetLemmas.{member_true, true_member}
-use Rattle.bb_rules.specs.declared.kind.Kind.TheVariants.{State, Watch, Cut, Output}
-use Rattle.bb_rules.specs.declared.plan.Cell.{Cell}
-use Rattle.bb_rules.specs.Lines.{d_of}
+use Rattle.bb_terms.specs.declared.kind.Kind.TheVariants.{State, Watch, Cut, Output}
+use Rattle.bb_terms.specs.declared.plan.Cell.{Cell}
+use Rattle.bb_terms.specs.Lines.{d_of}
 use Rattle.bb_reg.specs.Draft.{those, bare_cell, source_cells, HasLeavesWith, AreCells}
 use Rattle.bb_reg.specs.LineTables.{AreStopsOf, IsLineBehind, reading_in}
 

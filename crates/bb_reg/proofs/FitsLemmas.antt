@@ -4,14 +4,14 @@ use Rattle.std.specs.List.{AllByRecursion, flat_map, list_any}
 use Rattle.std.proofs.lemmas.List.Sorted.{Contains-permutation, IsPermutation-sym}
 use Rattle.bb_base.proofs.Lists.{all_join, all_map_back}
 use Rattle.bb_base.proofs.Contained.{of_all, to_all, place_of}
-use Rattle.bb_netlist.specs.Net.{Flop, Netlist}
-use Rattle.bb_segment.specs.Paths.{is_free}
-use Rattle.bb_segment.specs.Cuts.{is_stop_with}
-use Rattle.bb_segment.proofs.FunctionLemmas.{driver_of}
+use Rattle.bb_base.specs.Net.{Flop, Netlist}
+use Rattle.bb_terms.specs.Paths.{is_free}
+use Rattle.bb_terms.specs.Cuts.{is_stop_with}
+use Rattle.bb_terms.proofs.FunctionLemmas.{driver_of}
 use Rattle.bb_segment.proofs.SetLemmas.{of_filter}
-use Rattle.bb_rules.specs.declared.kind.Kind.TheVariants.{Input, State, Split, Cut, Watch, Output}
-use Rattle.bb_rules.specs.Plan.{RegisterValue}
-use Rattle.bb_rules.specs.Rules.{Fits, IsInput, IsQ, IsGateNet}
+use Rattle.bb_terms.specs.declared.kind.Kind.TheVariants.{Input, State, Split, Cut, Watch, Output}
+use Rattle.bb_terms.specs.Plan.{RegisterValue}
+use Rattle.bb_terms.specs.Rules.{Fits, IsInput, IsQ, IsGateNet}
 use Rattle.bb_reg.specs.Draft.{DraftValue, AreCells, HasLeavesWith, bare_cell, those, source_cells, observer_cells}
 use Rattle.bb_reg.specs.Chosen.{grouped_of}
 use Rattle.bb_reg.proofs.LineLemmas.{zip_long}

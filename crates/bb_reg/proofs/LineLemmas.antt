@@ -4,14 +4,14 @@ use Rattle.std.specs.List.{AllZip, list_any, flat_map}
 use Rattle.std.specs.Option.{option_map}
 use Rattle.std.proofs.lemmas.List.{get_or_read, take_more}
 use Rattle.std.proofs.lemmas.List.Elements.{All-contains}
-use Rattle.bb_netlist.specs.Net.{Gate, Flop, Netlist, driven, IsNetlist}
+use Rattle.bb_base.specs.Net.{Gate, Flop, Netlist, driven, IsNetlist}
 use Rattle.bb_base.proofs.Lists.{in_back, length_map}
 use Rattle.bb_base.proofs.Contained.{contains_at, contains_map}
-use Rattle.bb_segment.specs.Paths.{Start, AtNet, Behind}
-use Rattle.bb_segment.specs.Function.{StandsIn}
-use Rattle.bb_segment.specs.Support.{start_in}
-use Rattle.bb_segment.specs.declared.start.Start.{Start as CodeStart}
-use Rattle.bb_segment.specs.declared.start.Start.TheVariants.{Net, Gate as GateNumber}
+use Rattle.bb_terms.specs.Paths.{Start, AtNet, Behind}
+use Rattle.bb_terms.specs.Function.{StandsIn}
+use Rattle.bb_terms.specs.Support.{start_in}
+use Rattle.bb_terms.specs.declared.start.Start.{Start as CodeStart}
+use Rattle.bb_terms.specs.declared.start.Start.TheVariants.{Net, Gate as GateNumber}
 use Rattle.bb_reg.specs.LineTables.{reading_in}
 use Rattle.bb_reg.proofs.SeenLemmas.{get_map}
 

@@ -6,13 +6,13 @@ use Rattle.std.specs.List.Sorted.{IsStrictlyIncreasing}
 use Rattle.std.proofs.lemmas.List.Elements.{All-contains}
 use Rattle.bb_base.proofs.Lists.{in_front, in_back}
 use Rattle.bb_base.proofs.Contained.{here, either, none_in, contains_map, place_of, to_all}
-use Rattle.bb_netlist.specs.Net.{Gate, Flop, Netlist, driven, IsNetlist}
-use Rattle.bb_segment.specs.Paths.{is_free, AtNet, Behind}
-use Rattle.bb_segment.specs.Support.{AreLeaves, stop_at}
-use Rattle.bb_segment.specs.Cuts.{is_stop_with}
-use Rattle.bb_segment.proofs.FunctionLemmas.{driver_of}
+use Rattle.bb_base.specs.Net.{Gate, Flop, Netlist, driven, IsNetlist}
+use Rattle.bb_terms.specs.Paths.{is_free, AtNet, Behind}
+use Rattle.bb_terms.specs.Support.{AreLeaves, stop_at}
+use Rattle.bb_terms.specs.Cuts.{is_stop_with}
+use Rattle.bb_terms.proofs.FunctionLemmas.{driver_of}
 use Rattle.bb_segment.proofs.LeafLemmas.{at_stop, at_open}
-use Rattle.bb_segment.proofs.ReadLemmas.{gate_one}
+use Rattle.bb_terms.proofs.ReadLemmas.{gate_one}
 use Rattle.bb_segment.proofs.SetLemmas.{of_filter}
 use Rattle.bb_segment.proofs.SupportLemmas.{one_support}
 use Rattle.bb_reg.specs.LineTables.{AreNarrow, AreStopsOf}

@@ -3,8 +3,8 @@ use Rattle.std.proofs.Common.{arith, ◌≡◌, ℕ, zero, suc, ◌+◌, ◌<◌
 use Rattle.std.proofs.Math.Seq.{get_or-append_seam}
 use Rattle.std.specs.List.{list_any, fold, range_with_len, AllByRecursion, flat_map}
 use Rattle.bb_base.proofs.Lists.{length_map, map_join, map_twice, all_join, same_map}
-use Rattle.bb_rules.specs.declared.plan.Cell.{Cell}
-use Rattle.bb_rules.specs.Plan.{RegisterValue}
+use Rattle.bb_terms.specs.declared.plan.Cell.{Cell}
+use Rattle.bb_terms.specs.Plan.{RegisterValue}
 use Rattle.bb_reg.specs.Draft.{DraftValue}
 use Rattle.bb_reg.specs.Chosen.{Seen, first_fit, fitted, clash, in_registers, seen_cells, register_of, in_runs, grouped_of}
 use Rattle.bb_reg.specs.Fitting.{EndsValue, ends_at, ends_clash, fits_in, groups_of, seen_at, cell_at, leaves_at, no_observer, ends_of_all, ends_each}

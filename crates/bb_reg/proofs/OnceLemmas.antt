@@ -4,8 +4,8 @@ use Rattle.std.specs.List.{fold, flat_map, list_any}
 use Rattle.std.specs.List.Sorted.{IsPermutation}
 use Rattle.std.proofs.lemmas.List.Sorted.{IsPermutation-refl, IsPermutation-trans, IsPermutation-append_left, IsPermutation-append_right, IsPermutation-append_comm, IsPermutation-append, IsPermutation-map}
 use Rattle.bb_base.proofs.Lists.{map_join}
-use Rattle.bb_rules.specs.declared.plan.Cell.{Cell}
-use Rattle.bb_rules.specs.Plan.{RegisterValue}
+use Rattle.bb_terms.specs.declared.plan.Cell.{Cell}
+use Rattle.bb_terms.specs.Plan.{RegisterValue}
 use Rattle.bb_reg.specs.Draft.{DraftValue}
 use Rattle.bb_reg.specs.Chosen.{Seen, clash, first_fit, fitted, in_runs, in_registers, seen_cells, register_of, grouped_of}
 

@@ -2,12 +2,12 @@
 use Rattle.std.proofs.Common.{◌≡◌, ℕ, Bool, true, false, not, ◌&&◌, ◌||◌, nat_lt, List, [], ◌∷◌, length, map, filter, refl, sym, ◌∙◌, subst}
 use Rattle.std.specs.List.{AllByRecursion, list_any, list_all}
 use Rattle.bb_base.proofs.Lists.{all_join, all_map_back}
-use Rattle.bb_netlist.specs.Net.{Flop, Netlist}
-use Rattle.bb_segment.specs.Cuts.{is_stop_with}
-use Rattle.bb_rules.specs.declared.kind.Kind.TheVariants.{Input, State, Split, Cut, Watch, Output}
-use Rattle.bb_rules.specs.declared.plan.Cell.{Cell}
-use Rattle.bb_rules.specs.Kinds.{only_generates}
-use Rattle.bb_rules.specs.Rules.{IsPure}
+use Rattle.bb_base.specs.Net.{Flop, Netlist}
+use Rattle.bb_terms.specs.Cuts.{is_stop_with}
+use Rattle.bb_terms.specs.declared.kind.Kind.TheVariants.{Input, State, Split, Cut, Watch, Output}
+use Rattle.bb_terms.specs.declared.plan.Cell.{Cell}
+use Rattle.bb_terms.specs.Kinds.{only_generates}
+use Rattle.bb_terms.specs.Rules.{IsPure}
 use Rattle.bb_reg.specs.Draft.{DraftValue, AreCells, bare_cell, those, source_cells, observer_cells}
 use Rattle.bb_reg.specs.Chosen.{Seen, clash, in_runs, in_registers, seen_cells, register_of, grouped_of}
 use Rattle.bb_reg.proofs.NaturalLemmas.{fitted_all}

@@ -1,12 +1,12 @@
 -- What observers give and read, by their cells and leaves.
 use Rattle.std.proofs.Common.{◌≡◌, ℕ, zero, suc, ◌+◌, ◌<◌, List, [], ◌∷◌, ◌++◌, length, map, take, get_or, refl, sym, ap, ◌∙◌, arith}
 use Rattle.std.proofs.lemmas.List.{get_or_read, take_more}
-use Rattle.bb_rules.specs.declared.kind.Kind.TheVariants.{Input}
+use Rattle.bb_terms.specs.declared.kind.Kind.TheVariants.{Input}
 use Rattle.bb_base.proofs.Lists.{length_map, map_join}
 use Rattle.bb_reg.specs.Draft.{bare_cell}
 use Rattle.bb_reg.specs.Fitting.{EndsValue, seen_at, cell_at, leaves_at, no_observer, ends_of_all, ends_each}
 use Rattle.std.specs.List.{flat_map}
-use Rattle.bb_rules.specs.declared.plan.Cell.{Cell}
+use Rattle.bb_terms.specs.declared.plan.Cell.{Cell}
 use Rattle.bb_reg.specs.Chosen.{given_by, given, read_nets, seen_cells}
 
 pub given_seen : (cells : List Cell) (leaves : List (List ℕ)) → length cells ≡ length leaves → flat_map given_by cells ≡ given (seen_cells cells leaves)

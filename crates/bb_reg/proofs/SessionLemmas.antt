@@ -4,7 +4,7 @@ use Rattle.std.specs.List.{list_any, fold, range_with_len, AllByRecursion}
 use Rattle.std.proofs.lemmas.Bool.Decides.{nat_tests}
 use Rattle.std.proofs.lemmas.List.FromFn.{length-range_with_len}
 use Rattle.bb_base.proofs.Lists.{map_twice}
-use Rattle.bb_rules.specs.Plan.{RegisterValue, has_input}
+use Rattle.bb_terms.specs.Plan.{RegisterValue, has_input}
 use Rattle.bb_reg.specs.Chosen.{Seen, first_fit, fitted, conflict, in_sessions, compacting_from, seen_cells}
 use Rattle.bb_reg.specs.Fitting.{EndsValue, ends_at, ends_clash, groups_of, ends_of_all}
 use Rattle.bb_reg.proofs.SeenLemmas.{get_map}

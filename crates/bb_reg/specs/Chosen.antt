@@ -1,9 +1,9 @@
 -- Registers and sessions by first fit (this project's own choice).
 use Rattle.std.specs.Prelude.{ℕ, suc, Bool, not, ◌&&◌, ◌||◌, List, [], ◌∷◌, ◌++◌, length, map, take, drop, if◌then◌else◌, nat_eq, nat_lt}
 use Rattle.std.specs.List.{fold, list_any, flat_map}
-use Rattle.bb_rules.specs.declared.plan.Cell.{Cell}
-use Rattle.bb_rules.specs.Kinds.{reads_back}
-use Rattle.bb_rules.specs.Plan.{RegisterValue, has_input}
+use Rattle.bb_terms.specs.declared.plan.Cell.{Cell}
+use Rattle.bb_terms.specs.Kinds.{reads_back}
+use Rattle.bb_terms.specs.Plan.{RegisterValue, has_input}
 use Rattle.bb_reg.specs.Draft.{DraftValue}
 
 -- an observer with the leaves of its line

@@ -1,14 +1,14 @@
 -- The cells that a netlist with its cuts needs: sources, and observers with the leaves of their lines, not yet in registers.
 use Rattle.std.specs.Prelude.{◌≡◌, ◌↔◌, ℕ, Bool, true, not, List, [], ◌∷◌, ◌++◌, map, filter, if◌then◌else◌}
 use Rattle.std.specs.List.{AllZip}
-use Rattle.bb_netlist.specs.Net.{Netlist}
-use Rattle.bb_segment.specs.Paths.{Start, AtNet, IsLeaf}
-use Rattle.bb_segment.specs.Support.{AreLeaves}
-use Rattle.bb_segment.specs.Cuts.{is_stop_with}
-use Rattle.bb_rules.specs.declared.kind.Kind.{Kind}
-use Rattle.bb_rules.specs.declared.kind.Kind.TheVariants.{Input, State, Split, Cut, Watch, Output}
-use Rattle.bb_rules.specs.declared.plan.Cell.{Cell}
-use Rattle.bb_rules.specs.Lines.{IsStart}
+use Rattle.bb_base.specs.Net.{Netlist}
+use Rattle.bb_terms.specs.Paths.{Start, AtNet, IsLeaf}
+use Rattle.bb_terms.specs.Support.{AreLeaves}
+use Rattle.bb_terms.specs.Cuts.{is_stop_with}
+use Rattle.bb_terms.specs.declared.kind.Kind.{Kind}
+use Rattle.bb_terms.specs.declared.kind.Kind.TheVariants.{Input, State, Split, Cut, Watch, Output}
+use Rattle.bb_terms.specs.declared.plan.Cell.{Cell}
+use Rattle.bb_terms.specs.Lines.{IsStart}
 
 -- a cell without a column
 abbrev pub bare_cell : Kind → ℕ → Cell

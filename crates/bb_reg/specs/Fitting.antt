@@ -4,8 +4,8 @@ use Rattle.std.specs.List.{list_any, range_with_len}
 use Rattle.std.specs.Map.{lookup}
 use Rattle.std.specs.BTreeMap.{is_at}
 use Rattle.std.specs.Ordering.{nat_cmp}
-use Rattle.bb_rules.specs.declared.kind.Kind.TheVariants.{Input}
-use Rattle.bb_rules.specs.declared.plan.Cell.{Cell}
+use Rattle.bb_terms.specs.declared.kind.Kind.TheVariants.{Input}
+use Rattle.bb_terms.specs.declared.plan.Cell.{Cell}
 use Rattle.bb_reg.specs.Draft.{bare_cell}
 use Rattle.bb_reg.specs.Chosen.{Seen, fitted, given, read_nets, share}
 

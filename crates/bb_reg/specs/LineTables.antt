@@ -1,12 +1,12 @@
 -- The lines of flip-flops and of gates' nets, and their leaves by a table of stops. No public contract cites this.
 use Rattle.std.specs.Prelude.{◌≡◌, ℕ, ◌≤◌, Bool, List, [], ◌∷◌, length, nat_eq}
 use Rattle.std.specs.List.{list_any}
-use Rattle.bb_netlist.specs.Net.{Gate, Flop, Netlist}
-use Rattle.bb_segment.specs.Paths.{Start}
-use Rattle.bb_segment.specs.Support.{AreLeaves, stop_at}
-use Rattle.bb_segment.specs.Function.{StandsIn}
-use Rattle.bb_segment.specs.Cuts.{is_stop_with}
-use Rattle.bb_rules.specs.Lines.{StartsBehind}
+use Rattle.bb_base.specs.Net.{Gate, Flop, Netlist}
+use Rattle.bb_terms.specs.Paths.{Start}
+use Rattle.bb_terms.specs.Support.{AreLeaves, stop_at}
+use Rattle.bb_terms.specs.Function.{StandsIn}
+use Rattle.bb_terms.specs.Cuts.{is_stop_with}
+use Rattle.bb_terms.specs.Lines.{StartsBehind}
 
 -- no line has more than 16 leaves
 abbrev pub AreNarrow : List (Gate ℕ) → (ℕ → Bool) → Type 0

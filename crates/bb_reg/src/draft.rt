@@ -1,6 +1,6 @@
 use arrayvec::ArrayVec;
-use bb_netlist::NetId;
-use bb_rules::{Cell, Register};
+use bb_base::NetId;
+use bb_terms::{Cell, Register};
 use std::marker::Model;
 
 /// The cells of a netlist before they are in registers: sources, and observers with the leaves of the line of each. Columns are 0.

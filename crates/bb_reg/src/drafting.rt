@@ -3,11 +3,11 @@
 ghost use Rattle.std.specs.Prelude.{◌≡◌, ◌≤◌, ◌<◌, ◌+◌, ◌*◌, ◌++◌, ℕ, List, false, not, length, map, filter, Contains, IfOk, OnOk};
 ghost use Rattle.std.specs.List.{AllZip, AllByRecursion};
 ghost use Rattle.std.specs.List.Sorted.{IsStrictlyIncreasing};
-ghost use Rattle.bb_netlist.specs.Net.{Gate, driven};
-ghost use Rattle.bb_segment.specs.Paths.{AtNet, Behind, is_free};
-ghost use Rattle.bb_segment.specs.Support.{AreLeaves, stop_at};
-ghost use Rattle.bb_segment.specs.Cuts.{is_stop_with};
-ghost use Rattle.bb_rules.specs.declared.kind.Kind.TheVariants.{State, Watch, Cut, Output};
+ghost use Rattle.bb_base.specs.Net.{Gate, driven};
+ghost use Rattle.bb_terms.specs.Paths.{AtNet, Behind, is_free};
+ghost use Rattle.bb_terms.specs.Support.{AreLeaves, stop_at};
+ghost use Rattle.bb_terms.specs.Cuts.{is_stop_with};
+ghost use Rattle.bb_terms.specs.declared.kind.Kind.TheVariants.{State, Watch, Cut, Output};
 ghost use Rattle.bb_reg.specs.Draft.{AreCells, bare_cell, source_cells, those};
 ghost use Rattle.bb_reg.specs.LineTables.{AreNarrow, AreStopsOf, IsLineBehind};
 
@@ -15,9 +15,10 @@ use crate::Draft;
 use crate::lines::{flop_lines, gate_lines, self_reading, stops_of};
 use crate::registers::copied;
 use arrayvec::ArrayVec;
-use bb_netlist::{Flop, NetId, Netlist, Order};
-use bb_rules::{Cell, Kind};
+use bb_base::{Flop, NetId, Netlist};
+use bb_netlist::Order;
 use bb_segment::{Walk, is_stop};
+use bb_terms::{Cell, Kind};
 use std::alloc::{AllocError, Global};
 
 /// Adds a cell of a kind on each of some nets.

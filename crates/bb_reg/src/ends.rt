@@ -6,8 +6,8 @@ ghost use Rattle.std.specs.List.{flat_map};
 ghost use Rattle.bb_reg.specs.Fitting.{ends_of_all};
 
 use arrayvec::ArrayVec;
-use bb_netlist::NetId;
-use bb_rules::Cell;
+use bb_base::NetId;
+use bb_terms::Cell;
 use std::alloc::{AllocError, Global};
 use std::marker::Model;
 

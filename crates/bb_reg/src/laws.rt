@@ -3,10 +3,10 @@
 ghost use Rattle.std.specs.Prelude.{◌≡◌, ◌≤◌, ◌++◌, ℕ, false, List, length, AllPairs};
 ghost use Rattle.std.specs.List.{AllByRecursion, flat_map};
 ghost use Rattle.std.specs.List.Sorted.{IsPermutation};
-ghost use Rattle.bb_rules.specs.Plan.{RegisterValue};
-ghost use Rattle.bb_netlist.specs.Net.{Netlist};
-ghost use Rattle.bb_segment.specs.Paths.{is_free};
-ghost use Rattle.bb_rules.specs.Rules.{Fits, IsPure};
+ghost use Rattle.bb_terms.specs.Plan.{RegisterValue};
+ghost use Rattle.bb_base.specs.Net.{Netlist};
+ghost use Rattle.bb_terms.specs.Paths.{is_free};
+ghost use Rattle.bb_terms.specs.Rules.{Fits, IsPure};
 ghost use Rattle.bb_reg.specs.Draft.{AreCells, DraftValue};
 ghost use Rattle.bb_reg.specs.Chosen.{Seen, clash, conflict, grouped_of, in_registers, numbered_sessions};
 

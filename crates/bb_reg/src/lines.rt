@@ -2,16 +2,18 @@
 
 ghost use Rattle.std.specs.Prelude.{◌≡◌, ◌<◌, ◌^◌, ◌||◌, ℕ, true, false, length, map, nat_eq, Some, IfOk, OnOk};
 ghost use Rattle.std.specs.List.{AllZip, AllByRecursion, list_any};
-ghost use Rattle.bb_netlist.specs.Net.{IsNetlist, driven};
-ghost use Rattle.bb_netlist.specs.Levels.{AreGates};
-ghost use Rattle.bb_segment.specs.Paths.{AtNet, is_free};
-ghost use Rattle.bb_segment.specs.Support.{AreLeaves, HasLeaves, StartExists, start_in, stop_at};
-ghost use Rattle.bb_rules.specs.Lines.{StartsBehind};
+ghost use Rattle.bb_base.specs.Net.{IsNetlist, driven};
+ghost use Rattle.bb_base.specs.Levels.{AreGates};
+ghost use Rattle.bb_terms.specs.Paths.{AtNet, is_free};
+ghost use Rattle.bb_terms.specs.Support.{AreLeaves, HasLeaves, StartExists, start_in, stop_at};
+ghost use Rattle.bb_terms.specs.Lines.{StartsBehind};
 ghost use Rattle.bb_reg.specs.LineTables.{AreNarrow, AreStopsOf, IsLineBehind, reading_in};
 
 use arrayvec::ArrayVec;
-use bb_netlist::{Driver, Flop, Gate, NetId, Netlist, Order};
-use bb_segment::{Start, Walk, support};
+use bb_base::{Driver, Flop, Gate, NetId, Netlist};
+use bb_netlist::Order;
+use bb_segment::{Walk, support};
+use bb_terms::Start;
 use std::alloc::{AllocError, Global};
 
 /// Every net is a stop but the gates' outputs.

@@ -10,8 +10,8 @@ use crate::fit::fit;
 use crate::index::Numbers;
 use crate::{Draft, Grouped};
 use arrayvec::ArrayVec;
-use bb_netlist::NetId;
-use bb_rules::{Cell, Register};
+use bb_base::NetId;
+use bb_terms::{Cell, Register};
 use std::alloc::{AllocError, Global};
 
 /// A register of some cells, without a mask.

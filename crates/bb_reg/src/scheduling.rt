@@ -2,7 +2,7 @@
 
 ghost use Rattle.std.specs.Prelude.{◌≡◌, ◌<◌, ◌^◌, ◌++◌, ◌∷◌, [], length, map, IfOk, OnOk, slice_index, if◌then◌else◌};
 ghost use Rattle.std.specs.List.{AllByRecursion, flat_map};
-ghost use Rattle.bb_rules.specs.Plan.{has_input};
+ghost use Rattle.bb_terms.specs.Plan.{has_input};
 ghost use Rattle.bb_reg.specs.Chosen.{compacting_from, scheduled_of, seen_cells};
 ghost use Rattle.bb_reg.specs.Fitting.{ends_of_all};
 
@@ -11,8 +11,8 @@ use crate::ends::{Ends, ends_of};
 use crate::fit::fit;
 use crate::index::Numbers;
 use arrayvec::ArrayVec;
-use bb_netlist::NetId;
-use bb_rules::{Register, Session};
+use bb_base::NetId;
+use bb_terms::{Register, Session};
 use std::alloc::{AllocError, Global};
 
 /// The numbers of the registers that may compact, and what their observers give and read.

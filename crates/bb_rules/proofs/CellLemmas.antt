@@ -1,14 +1,14 @@
 -- Cells by their numbers, and the one source cell of a net.
 use Rattle.std.proofs.Common.{◌≡◌, ℕ, zero, suc, ◌+◌, ◌<◌, ◌==◌, ◌&&◌, ◌||◌, List, [], ◌∷◌, ◌++◌, length, take, Bool, true, false, cond, refl, sym, ap, subst, ◌∙◌, arith, slice_get, Option, Some, None, length-append}
 use Rattle.std.proofs.lemmas.Bool.Decides.{nat_tests}
-use Rattle.bb_rules.proofs.ChainLemmas.{cells_of}
-use Rattle.bb_netlist.specs.Net.{Netlist}
+use Rattle.bb_terms.proofs.ChainLemmas.{cells_of}
+use Rattle.bb_base.specs.Net.{Netlist}
 use Rattle.bb_base.proofs.Lists.{get_back}
-use Rattle.bb_rules.specs.declared.plan.Cell.{Cell}
-use Rattle.bb_rules.specs.Kinds.{is_source}
-use Rattle.bb_rules.specs.Plan.{RegisterValue, PlanValue, chain, IsCell}
-use Rattle.bb_rules.specs.Lines.{source_in, source_from, or_later, column_in, column_of}
-use Rattle.bb_rules.specs.Rules.{Apart, Holds}
+use Rattle.bb_terms.specs.declared.plan.Cell.{Cell}
+use Rattle.bb_terms.specs.Kinds.{is_source}
+use Rattle.bb_terms.specs.Plan.{RegisterValue, PlanValue, chain, IsCell}
+use Rattle.bb_terms.specs.Lines.{source_in, source_from, or_later, column_in, column_of}
+use Rattle.bb_terms.specs.Rules.{Apart, Holds}
 
 pub get_left : {X : Type 0} (xs ys : List X) (k : ℕ) (x : X) → slice_get xs k ≡ Some x → slice_get (xs ++ ys) k ≡ Some x
 get_left [] ys k x at = absurd (cc at)

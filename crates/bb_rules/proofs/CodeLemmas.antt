@@ -4,27 +4,27 @@ use Rattle.std.proofs.lemmas.List.{get_or_past}
 use Rattle.std.proofs.lemmas.Nat.{pow_pos}
 use Rattle.std.proofs.lemmas.List.Elements.{All-from_recursion}
 use Rattle.std.specs.List.{AllByRecursion}
-use Rattle.bb_netlist.specs.Net.{Netlist, IsNetlist}
-use Rattle.bb_gf2.specs.Dual.{AreDuals}
-use Rattle.bb_gf2.specs.Parity.{code_bit}
+use Rattle.bb_base.specs.Net.{Netlist, IsNetlist}
+use Rattle.bb_base.specs.Dual.{AreDuals}
+use Rattle.bb_base.specs.Parity.{code_bit}
 use Rattle.bb_gf2.proofs.Pairing.{duals_from_least}
 use Rattle.bb_gf2.proofs.Existence.{duals_exist, duals_below}
-use Rattle.bb_creg.specs.Register.{state_after}
+use Rattle.bb_terms.specs.Register.{state_after}
 use Rattle.bb_creg.proofs.Orbit.{vector_comes}
 use Rattle.bb_base.proofs.Lists.{map_twice, length_map}
 use Rattle.bb_base.proofs.Contained.{of_all, each_same}
-use Rattle.bb_segment.specs.Paths.{Start, Behind, IsLeaf}
-use Rattle.bb_rules.specs.declared.kind.Kind.{Kind}
-use Rattle.bb_rules.specs.declared.kind.Kind.TheVariants.{Input, State, Split, Cut, Watch, Output}
-use Rattle.bb_rules.specs.declared.plan.Cell.{Cell}
-use Rattle.bb_rules.specs.Kinds.{is_source, is_observer}
-use Rattle.bb_rules.specs.Plan.{PlanValue, chain}
-use Rattle.bb_rules.specs.Lines.{is_stop, source_in, column_of, StartsBehind, IsStart, IsStartOf, IsLeafOf}
-use Rattle.bb_rules.specs.Rules.{Columns, Codes, Period, Holds}
-use Rattle.bb_rules.specs.Valid.{SegmentValue, IsSegmentOf, column_at}
-use Rattle.bb_rules.specs.Signatures.{code_at}
+use Rattle.bb_terms.specs.Paths.{Start, Behind, IsLeaf}
+use Rattle.bb_terms.specs.declared.kind.Kind.{Kind}
+use Rattle.bb_terms.specs.declared.kind.Kind.TheVariants.{Input, State, Split, Cut, Watch, Output}
+use Rattle.bb_terms.specs.declared.plan.Cell.{Cell}
+use Rattle.bb_terms.specs.Kinds.{is_source, is_observer}
+use Rattle.bb_terms.specs.Plan.{PlanValue, chain}
+use Rattle.bb_terms.specs.Lines.{is_stop, source_in, column_of, StartsBehind, IsStart, IsStartOf, IsLeafOf}
+use Rattle.bb_terms.specs.Rules.{Columns, Codes, Period, Holds}
+use Rattle.bb_terms.specs.Valid.{SegmentValue, IsSegmentOf, column_at}
+use Rattle.bb_terms.specs.Signatures.{code_at}
 use Rattle.bb_rules.proofs.CellLemmas.{column_found, column_from}
-use Rattle.bb_rules.proofs.NetLemmas.{one_gate}
+use Rattle.bb_terms.proofs.NetLemmas.{one_gate}
 
 -- a cell's walk has one start
 pub one_start : (a : Netlist ℕ) (c : Cell) (x y : Start ℕ) → IsNetlist a → IsStart a c x → IsStart a c y → x ≡ y

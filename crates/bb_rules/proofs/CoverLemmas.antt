@@ -1,22 +1,22 @@
 -- Each gate that matters lies in the segment of an observer.
 use Rattle.std.proofs.Common.{◌≡◌, ◌⊎◌, inl, inr, ℕ, ◌<◌, ◌||◌, Bool, true, false, List, [], ◌∷◌, length, map, refl, sym, ap, subst, ◌∙◌, Contains}
 use Rattle.std.proofs.lemmas.List.Elements.{Contains-append_cases}
-use Rattle.bb_netlist.specs.Net.{Gate, Flop, Netlist, driven, IsNetlist}
+use Rattle.bb_base.specs.Net.{Gate, Flop, Netlist, driven, IsNetlist}
 use Rattle.bb_base.proofs.Contained.{here, contains_at, place_of}
 use Rattle.bb_base.proofs.Lists.{get_map}
-use Rattle.bb_segment.specs.Paths.{Start, AtNet, Behind, starts, is_free, IsPathBack, IsReached, LiesIn, LiesBehind}
-use Rattle.bb_segment.proofs.PathLemmas.{reached_more, reached_here}
-use Rattle.bb_rules.specs.declared.kind.Kind.{Kind}
-use Rattle.bb_rules.specs.declared.kind.Kind.TheVariants.{Cut, Output}
-use Rattle.bb_rules.specs.declared.plan.Cell.{Cell}
-use Rattle.bb_rules.specs.Kinds.{is_observer, takes_d, takes_net}
-use Rattle.bb_rules.specs.Plan.{PlanValue, chain}
-use Rattle.bb_rules.specs.Lines.{is_stop, IsStart}
-use Rattle.bb_rules.specs.Rules.{Served, Holds, HasKind, IsGateNet}
+use Rattle.bb_terms.specs.Paths.{Start, AtNet, Behind, starts, is_free, IsPathBack, IsReached, LiesIn, LiesBehind}
+use Rattle.bb_terms.proofs.PathLemmas.{reached_more, reached_here}
+use Rattle.bb_terms.specs.declared.kind.Kind.{Kind}
+use Rattle.bb_terms.specs.declared.kind.Kind.TheVariants.{Cut, Output}
+use Rattle.bb_terms.specs.declared.plan.Cell.{Cell}
+use Rattle.bb_terms.specs.Kinds.{is_observer, takes_d, takes_net}
+use Rattle.bb_terms.specs.Plan.{PlanValue, chain}
+use Rattle.bb_terms.specs.Lines.{is_stop, IsStart}
+use Rattle.bb_terms.specs.Rules.{Served, Holds, HasKind, IsGateNet}
 use Rattle.bb_rules.specs.Covered.{IsUsed, IsCovered}
-use Rattle.bb_rules.proofs.NetLemmas.{driven_net, gate_net, out_within}
-use Rattle.bb_rules.proofs.ServedLemmas.{served_at}
-use Rattle.bb_rules.proofs.StopLemmas.{stop_cases, starts_as, takes_its_d}
+use Rattle.bb_terms.proofs.NetLemmas.{driven_net, gate_net, out_within}
+use Rattle.bb_terms.proofs.ServedLemmas.{served_at}
+use Rattle.bb_terms.proofs.StopLemmas.{stop_cases, starts_as, takes_its_d}
 
 -- an observer whose walk starts there
 record Observes (a : Netlist ℕ) (p : PlanValue) (start : Start ℕ) : Type 0 where

@@ -4,31 +4,31 @@ use lib.Count
 use Rattle.std.specs.List.{AllByRecursion, list_all}
 use Rattle.std.specs.List.Sorted.{IsStrictlyIncreasing}
 use Rattle.bb_base.specs.declared.operator.Op.TheVariants.{And, Xor}
-use Rattle.bb_netlist.specs.Net.{Gate}
-use Rattle.bb_netlist.specs.Run.{by_op}
+use Rattle.bb_base.specs.Net.{Gate}
+use Rattle.bb_base.specs.Run.{by_op}
 use Rattle.bb_base.specs.Operators.{op_gives}
-use Rattle.bb_netlist.specs.Order.{is_within, HasLevel, ComesBefore}
-use Rattle.bb_gf2.specs.Span.{IsIndependent}
+use Rattle.bb_base.specs.Order.{is_within, HasLevel, ComesBefore}
+use Rattle.bb_base.specs.Span.{IsIndependent}
 use Rattle.bb_base.specs.Firsts.{IsLeast}
-use Rattle.bb_gf2.specs.Dual.{IsDual, AreLeastDuals}
-use Rattle.bb_gf2.specs.Parity.{code_bit}
-use Rattle.bb_creg.specs.Register.{IsMask, IsFullPeriod, state_after}
-use Rattle.bb_netlist.specs.Order.{HasOrder}
+use Rattle.bb_base.specs.Dual.{IsDual, AreLeastDuals}
+use Rattle.bb_base.specs.Parity.{code_bit}
+use Rattle.bb_terms.specs.Register.{IsMask, IsFullPeriod, state_after}
+use Rattle.bb_base.specs.Order.{HasOrder}
 use Rattle.bb_base.specs.Places.{EachAt}
 use Rattle.bb_base.proofs.Contained.{there, either, none_in, of_all}
-use Rattle.bb_segment.specs.Paths.{Behind, IsLeaf}
-use Rattle.bb_segment.specs.Support.{AreLeaves}
-use Rattle.bb_segment.specs.Function.{IsBitOf}
+use Rattle.bb_terms.specs.Paths.{Behind, IsLeaf}
+use Rattle.bb_terms.specs.Support.{AreLeaves}
+use Rattle.bb_terms.specs.Function.{IsBitOf}
 use Rattle.bb_segment.proofs.LeafLemmas.{ends_there, passes_none}
-use Rattle.bb_rules.specs.declared.kind.Kind.TheVariants.{Input, Output}
-use Rattle.bb_rules.specs.declared.plan.Cell.{Cell}
-use Rattle.bb_rules.specs.Kinds.{is_source}
-use Rattle.bb_rules.specs.Plan.{RegisterValue, PlanValue, chain}
-use Rattle.bb_rules.specs.Lines.{is_stop, cut_nets, IsLeafOf, IsStart}
-use Rattle.bb_segment.specs.Cuts.{is_stop_with}
-use Rattle.bb_rules.specs.Rules.{Rule, Frame, Registers, Kinds, Apart, Served, Pure, Sessions, Compacted, Room, Columns, Widths, Conflicts, Codes, Period, Holds, IsFrame, IsRegister, IsServed, Fits, IsQ, net_numbers, IsPure, IsNarrow, IsCoded, HasNoConflict, IsListed, IsSession, AreLeavesOf, IsColumn}
-use Rattle.bb_rules.specs.Valid.{IsValidPlan, IsValidFor, IsSourceOf}
-use Rattle.bb_rules.specs.Signatures.{code_at, IsLineBit, HasSignature, AreSignatures}
+use Rattle.bb_terms.specs.declared.kind.Kind.TheVariants.{Input, Output}
+use Rattle.bb_terms.specs.declared.plan.Cell.{Cell}
+use Rattle.bb_terms.specs.Kinds.{is_source}
+use Rattle.bb_terms.specs.Plan.{RegisterValue, PlanValue, chain}
+use Rattle.bb_terms.specs.Lines.{is_stop, cut_nets, IsLeafOf, IsStart}
+use Rattle.bb_terms.specs.Cuts.{is_stop_with}
+use Rattle.bb_terms.specs.Rules.{Rule, Frame, Registers, Kinds, Apart, Served, Pure, Sessions, Compacted, Room, Columns, Widths, Conflicts, Codes, Period, Holds, IsFrame, IsRegister, IsServed, Fits, IsQ, net_numbers, IsPure, IsNarrow, IsCoded, HasNoConflict, IsListed, IsSession, AreLeavesOf, IsColumn}
+use Rattle.bb_terms.specs.Valid.{IsValidPlan, IsValidFor, IsSourceOf}
+use Rattle.bb_terms.specs.Signatures.{code_at, IsLineBit, HasSignature, AreSignatures}
 use Rattle.bb_rules.specs.Half.{half, half_with, half_plan, half_valid, cell_on}
 
 -- a fact of each item at its place, by recursion

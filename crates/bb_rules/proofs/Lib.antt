@@ -1,17 +1,11 @@
-pub mod ChainLemmas
 pub mod CellLemmas
 pub mod RuleLemmas
 pub mod HalfLemmas
-pub mod ServedLemmas
-pub mod NetLemmas
 pub mod SourceLemmas
-pub mod StopLemmas
 pub mod CoverLemmas
 pub mod SessionLemmas
 pub mod CodeLemmas
 pub mod SignatureLemmas
 pub mod SegmentLemmas
-pub mod HalfFaults
 pub mod ToggleLemmas
-pub mod ToggleFaults
 pub mod SignedLemmas

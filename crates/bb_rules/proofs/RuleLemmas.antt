@@ -2,12 +2,12 @@
 use Rattle.std.proofs.Common.{◌≡◌, ◌⊎◌, inl, inr, ℕ, zero, suc, ◌<◌, ◌^◌, List, [], ◌∷◌, refl, sym, ap, subst, ◌∙◌, arith, take, slice_get, Some}
 use Rattle.std.specs.List.{AllByRecursion}
 use Rattle.bb_base.proofs.Contained.{at_place}
-use Rattle.bb_netlist.specs.Net.{Netlist}
+use Rattle.bb_base.specs.Net.{Netlist}
 use Rattle.bb_creg.proofs.Orbit.{first_return, first_unique}
 use Rattle.bb_base.specs.Places.{EachAt, IsFirstWrong}
-use Rattle.bb_rules.specs.Plan.{PlanValue}
-use Rattle.bb_rules.specs.Rules.{Rule, Frame, Registers, Kinds, Apart, Served, Pure, Sessions, Compacted, Room, Columns, Widths, Conflicts, Codes, Period, rule_number, Holds, FailsAt, IsFrame}
-use Rattle.bb_rules.specs.Valid.{IsValidPlan, IsRuleFault}
+use Rattle.bb_terms.specs.Plan.{PlanValue}
+use Rattle.bb_terms.specs.Rules.{Rule, Frame, Registers, Kinds, Apart, Served, Pure, Sessions, Compacted, Room, Columns, Widths, Conflicts, Codes, Period, rule_number, Holds, FailsAt, IsFrame}
+use Rattle.bb_terms.specs.Valid.{IsValidPlan, IsRuleFault}
 
 never : {X : Type 0} (xs : List X) (P : ℕ → X → Type 0) (place : ℕ) → EachAt xs P → IsFirstWrong xs P place → ⊥
 never xs P place each wrong = wrong.wrong (each place wrong.item wrong.stands)

@@ -4,20 +4,20 @@ use Rattle.std.proofs.lemmas.Grind.{same_number_lists}
 use Rattle.std.specs.List.{AllZip}
 use Rattle.bb_base.specs.Firsts.{IsLeast}
 use Rattle.bb_base.proofs.Contained.{contains_at}
-use Rattle.bb_netlist.specs.Net.{Netlist, IsNetlist}
-use Rattle.bb_gf2.specs.Dual.{IsDual, AreLeastDuals}
-use Rattle.bb_segment.specs.Paths.{Start, AtNet, Behind}
+use Rattle.bb_base.specs.Net.{Netlist, IsNetlist}
+use Rattle.bb_base.specs.Dual.{IsDual, AreLeastDuals}
+use Rattle.bb_terms.specs.Paths.{Start, AtNet, Behind}
 use Rattle.bb_segment.proofs.SupportLemmas.{ascending_same}
-use Rattle.bb_rules.specs.declared.kind.Kind.{Kind}
-use Rattle.bb_rules.specs.declared.kind.Kind.TheVariants.{Input, State, Split, Cut, Watch, Output}
-use Rattle.bb_rules.specs.declared.plan.Cell.{Cell}
-use Rattle.bb_rules.specs.Kinds.{has_line}
-use Rattle.bb_rules.specs.Plan.{PlanValue, chain, observers}
-use Rattle.bb_rules.specs.Lines.{d_of, IsStart, IsStartOf, StartsBehind, IsLeafOf}
-use Rattle.bb_rules.specs.Rules.{Kinds, Served, Holds, MayStand, IsGateNet}
-use Rattle.bb_rules.specs.Sources.{IsSourceAt}
-use Rattle.bb_rules.specs.Valid.{SegmentValue, IsSegmentOf, IsSourceOf, ValidValue, IsValidFor, column_at}
-use Rattle.bb_rules.proofs.StopLemmas.{leaf_within, source_at}
+use Rattle.bb_terms.specs.declared.kind.Kind.{Kind}
+use Rattle.bb_terms.specs.declared.kind.Kind.TheVariants.{Input, State, Split, Cut, Watch, Output}
+use Rattle.bb_terms.specs.declared.plan.Cell.{Cell}
+use Rattle.bb_terms.specs.Kinds.{has_line}
+use Rattle.bb_terms.specs.Plan.{PlanValue, chain, observers}
+use Rattle.bb_terms.specs.Lines.{d_of, IsStart, IsStartOf, StartsBehind, IsLeafOf}
+use Rattle.bb_terms.specs.Rules.{Kinds, Served, Holds, MayStand, IsGateNet}
+use Rattle.bb_terms.specs.Sources.{IsSourceAt}
+use Rattle.bb_terms.specs.Valid.{SegmentValue, IsSegmentOf, IsSourceOf, ValidValue, IsValidFor, column_at}
+use Rattle.bb_terms.proofs.StopLemmas.{leaf_within, source_at}
 
 -- a line starts somewhere
 pub some_start : (a : Netlist ℕ) (p : PlanValue) (i : ℕ) (c : Cell) → Holds a p Kinds → slice_get (chain p) i ≡ Some c → has_line c.kind ≡ true → (start : Start ℕ) × IsStart a c start

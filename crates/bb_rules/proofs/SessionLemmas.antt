@@ -3,19 +3,19 @@ use Rattle.std.proofs.Common.{◌≡◌, ℕ, zero, suc, ◌||◌, nat_eq, Bool,
 use Rattle.std.proofs.lemmas.Bool.Decides.{nat_tests}
 use Rattle.std.proofs.lemmas.Map.Views.{Contains-from_any}
 use Rattle.std.specs.List.{list_any}
-use Rattle.bb_netlist.specs.Net.{Netlist, IsNetlist}
+use Rattle.bb_base.specs.Net.{Netlist, IsNetlist}
 use Rattle.bb_base.proofs.Contained.{of_all}
-use Rattle.bb_rules.specs.declared.kind.Kind.{Kind}
-use Rattle.bb_rules.specs.declared.kind.Kind.TheVariants.{Input, State, Split, Cut, Watch, Output}
-use Rattle.bb_rules.specs.declared.plan.Cell.{Cell}
-use Rattle.bb_rules.specs.Kinds.{is_source, is_observer, only_generates}
-use Rattle.bb_rules.specs.Plan.{PlanValue, IsCell, has_input, lists_register, compacts}
-use Rattle.bb_rules.specs.Lines.{IsLeafOf}
-use Rattle.bb_rules.specs.Rules.{Kinds, Served, Sessions, Conflicts, Holds, MayCompact}
-use Rattle.bb_rules.specs.Sources.{IsGenerated}
+use Rattle.bb_terms.specs.declared.kind.Kind.{Kind}
+use Rattle.bb_terms.specs.declared.kind.Kind.TheVariants.{Input, State, Split, Cut, Watch, Output}
+use Rattle.bb_terms.specs.declared.plan.Cell.{Cell}
+use Rattle.bb_terms.specs.Kinds.{is_source, is_observer, only_generates}
+use Rattle.bb_terms.specs.Plan.{PlanValue, IsCell, has_input, lists_register, compacts}
+use Rattle.bb_terms.specs.Lines.{IsLeafOf}
+use Rattle.bb_terms.specs.Rules.{Kinds, Served, Sessions, Conflicts, Holds, MayCompact}
+use Rattle.bb_terms.specs.Sources.{IsGenerated}
 use Rattle.bb_rules.proofs.CellLemmas.{cell_at}
 use Rattle.bb_rules.proofs.SourceLemmas.{in_register}
-use Rattle.bb_rules.proofs.StopLemmas.{leaf_within, source_at}
+use Rattle.bb_terms.proofs.StopLemmas.{leaf_within, source_at}
 
 listed : (r : ℕ) (session : List ℕ) → lists_register r session ≡ true → Contains session r
 listed r session h = Contains-from_any {eq = nat_eq} (λ x y e. grind (arith, nat_tests, e)) r session h

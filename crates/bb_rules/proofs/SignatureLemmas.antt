@@ -1,21 +1,21 @@
 -- A plan has one list of signatures.
 use Rattle.std.proofs.Common.{◌≡◌, ◌⊎◌, inl, inr, ℕ, zero, suc, ◌+◌, ◌<◌, ◌^◌, Bool, List, [], ◌∷◌, length, map, refl, sym, ap, subst, ◌∙◌, arith, Some, Contains}
 use Rattle.std.specs.List.{AllZip, range_with_len}
-use Rattle.bb_netlist.specs.Net.{Netlist, IsNetlist}
-use Rattle.bb_netlist.specs.Run.{by_op}
-use Rattle.bb_netlist.specs.Order.{HasOrder}
+use Rattle.bb_base.specs.Net.{Netlist, IsNetlist}
+use Rattle.bb_base.specs.Run.{by_op}
+use Rattle.bb_base.specs.Order.{HasOrder}
 use Rattle.bb_base.proofs.Contained.{either, none_in, map_on}
-use Rattle.bb_gf2.specs.Bits.{from_bits}
-use Rattle.bb_creg.specs.Register.{state_after}
-use Rattle.bb_creg.specs.Signature.{signature}
-use Rattle.bb_segment.specs.Function.{IsBitOf}
-use Rattle.bb_segment.proofs.FunctionLemmas.{one_bit}
-use Rattle.bb_rules.specs.declared.plan.Cell.{Cell}
-use Rattle.bb_rules.specs.Plan.{PlanValue, RegisterValue}
-use Rattle.bb_rules.specs.Lines.{is_stop}
-use Rattle.bb_rules.specs.Signatures.{code_at, IsLineBit, HasSignature, IsSigned, AreSignatures}
+use Rattle.bb_base.specs.Bits.{from_bits}
+use Rattle.bb_terms.specs.Register.{state_after}
+use Rattle.bb_terms.specs.Signature.{signature}
+use Rattle.bb_terms.specs.Function.{IsBitOf}
+use Rattle.bb_terms.proofs.FunctionLemmas.{one_bit}
+use Rattle.bb_terms.specs.declared.plan.Cell.{Cell}
+use Rattle.bb_terms.specs.Plan.{PlanValue, RegisterValue}
+use Rattle.bb_terms.specs.Lines.{is_stop}
+use Rattle.bb_terms.specs.Signatures.{code_at, IsLineBit, HasSignature, IsSigned, AreSignatures}
 use Rattle.bb_rules.proofs.CodeLemmas.{one_start}
-use Rattle.bb_rules.proofs.StopLemmas.{free_stops}
+use Rattle.bb_terms.proofs.StopLemmas.{free_stops}
 
 below_end : (from n t : ℕ) → Contains (range_with_len from n) t → t < from + n
 below_end from zero t h = absurd (none_in t h)

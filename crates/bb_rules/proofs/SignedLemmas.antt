@@ -2,26 +2,26 @@
 use Rattle.std.proofs.Common.{◌≡◌, ℕ, ◌+◌, ◌<◌, ◌^◌, ◌==◌, ◌⊎◌, inl, inr, cond, take, Bool, true, false, List, [], ◌∷◌, length, map, refl, ap, ◌∙◌, arith, slice_get, Some, Contains}
 use Rattle.std.specs.List.{AllByRecursion, AllZip, flat_map, range_with_len}
 use Rattle.std.proofs.lemmas.Bool.Decides.{nat_tests}
-use Rattle.bb_netlist.specs.Net.{Gate, Netlist, IsNetlist}
-use Rattle.bb_netlist.specs.Run.{by_op}
-use Rattle.bb_netlist.specs.Order.{HasOrder}
+use Rattle.bb_base.specs.Net.{Gate, Netlist, IsNetlist}
+use Rattle.bb_base.specs.Run.{by_op}
+use Rattle.bb_base.specs.Order.{HasOrder}
 use Rattle.bb_base.proofs.Contained.{here, there, either, none_in, contains_at, place_of, by_place}
-use Rattle.bb_gf2.specs.Bits.{from_bits}
-use Rattle.bb_creg.specs.Register.{state_after}
-use Rattle.bb_creg.specs.Signature.{signature}
-use Rattle.bb_segment.specs.Paths.{Start, AtNet, Behind}
-use Rattle.bb_segment.specs.Function.{IsBitOf}
+use Rattle.bb_base.specs.Bits.{from_bits}
+use Rattle.bb_terms.specs.Register.{state_after}
+use Rattle.bb_terms.specs.Signature.{signature}
+use Rattle.bb_terms.specs.Paths.{Start, AtNet, Behind}
+use Rattle.bb_terms.specs.Function.{IsBitOf}
 use Rattle.bb_segment.proofs.ValueLemmas.{some_bit}
-use Rattle.bb_rules.specs.declared.kind.Kind.{Kind}
-use Rattle.bb_rules.specs.declared.kind.Kind.TheVariants.{Input, State, Split, Cut, Watch, Output}
-use Rattle.bb_rules.specs.declared.plan.Cell.{Cell}
-use Rattle.bb_rules.specs.Kinds.{is_observer, only_generates}
-use Rattle.bb_rules.specs.Plan.{PlanValue, RegisterValue, IsCell, has_input}
-use Rattle.bb_rules.specs.Lines.{is_stop, d_of, StartsBehind, IsStart, IsStartOf}
-use Rattle.bb_rules.specs.Rules.{Kinds, Sessions, Holds, MayCompact, MayStand, IsGateNet}
-use Rattle.bb_rules.specs.Signatures.{code_at, IsLineBit, IsSigned, AreSignatures}
+use Rattle.bb_terms.specs.declared.kind.Kind.{Kind}
+use Rattle.bb_terms.specs.declared.kind.Kind.TheVariants.{Input, State, Split, Cut, Watch, Output}
+use Rattle.bb_terms.specs.declared.plan.Cell.{Cell}
+use Rattle.bb_terms.specs.Kinds.{is_observer, only_generates}
+use Rattle.bb_terms.specs.Plan.{PlanValue, RegisterValue, IsCell, has_input}
+use Rattle.bb_terms.specs.Lines.{is_stop, d_of, StartsBehind, IsStart, IsStartOf}
+use Rattle.bb_terms.specs.Rules.{Kinds, Sessions, Holds, MayCompact, MayStand, IsGateNet}
+use Rattle.bb_terms.specs.Signatures.{code_at, IsLineBit, IsSigned, AreSignatures}
 use Rattle.bb_rules.proofs.CellLemmas.{cell_at}
-use Rattle.bb_rules.proofs.NetLemmas.{one_gate}
+use Rattle.bb_terms.proofs.NetLemmas.{one_gate}
 use Rattle.bb_rules.proofs.SessionLemmas.{observing, none_passes}
 
 -- behind the first of these gates that drives the net, and at the net where none does

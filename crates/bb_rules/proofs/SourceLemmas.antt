@@ -2,15 +2,15 @@
 use Rattle.std.proofs.Common.{◌≡◌, ℕ, zero, suc, ◌+◌, ◌-◌, ◌<◌, ◌==◌, ◌&&◌, ◌||◌, nat_lt, List, [], ◌∷◌, ◌++◌, length, take, Bool, true, false, cond, refl, sym, ap, subst, ◌∙◌, arith, slice_get, Some, None, length-append}
 use Rattle.std.proofs.lemmas.Bool.Decides.{nat_tests}
 use Rattle.std.proofs.lemmas.Option.{slice_get_within}
-use Rattle.bb_netlist.specs.Net.{Netlist}
+use Rattle.bb_base.specs.Net.{Netlist}
 use Rattle.bb_base.proofs.Lists.{get_front, get_back}
-use Rattle.bb_rules.specs.declared.plan.Cell.{Cell}
-use Rattle.bb_rules.specs.Kinds.{is_source}
-use Rattle.bb_rules.specs.Plan.{RegisterValue, PlanValue, chain, IsCell}
-use Rattle.bb_rules.specs.Lines.{source_in, source_from, source_of, or_later}
-use Rattle.bb_rules.specs.Rules.{Apart, Holds}
-use Rattle.bb_rules.specs.Sources.{IsSourceAt}
-use Rattle.bb_rules.proofs.ChainLemmas.{cells_of}
+use Rattle.bb_terms.specs.declared.plan.Cell.{Cell}
+use Rattle.bb_terms.specs.Kinds.{is_source}
+use Rattle.bb_terms.specs.Plan.{RegisterValue, PlanValue, chain, IsCell}
+use Rattle.bb_terms.specs.Lines.{source_in, source_from, source_of, or_later}
+use Rattle.bb_terms.specs.Rules.{Apart, Holds}
+use Rattle.bb_terms.specs.Sources.{IsSourceAt}
+use Rattle.bb_terms.proofs.ChainLemmas.{cells_of}
 use Rattle.bb_rules.proofs.CellLemmas.{cell_at, found_first, get_left}
 
 -- cell i of these registers is this cell, in that register

@@ -4,26 +4,26 @@ use lib.Count
 use Rattle.bb_base.specs.declared.operator.Op.TheVariants.{Not}
 use Rattle.bb_base.specs.Firsts.{IsLeast}
 use Rattle.bb_base.proofs.Contained.{here, either, none_in, contains_at, of_all}
-use Rattle.bb_netlist.specs.Net.{Gate, Flop}
-use Rattle.bb_netlist.specs.Run.{by_op, MeetsBy}
-use Rattle.bb_netlist.specs.Order.{HasLevel, HasOrder}
-use Rattle.bb_gf2.specs.Span.{IsIndependent}
-use Rattle.bb_gf2.specs.Dual.{IsDual, AreLeastDuals}
-use Rattle.bb_gf2.specs.Parity.{code_bit}
-use Rattle.bb_creg.specs.Register.{IsMask, IsFullPeriod, state_after}
-use Rattle.bb_segment.specs.Paths.{AtNet, IsPathBack, IsLeaf}
-use Rattle.bb_segment.specs.Support.{AreLeaves}
-use Rattle.bb_segment.specs.Cuts.{is_stop_with}
-use Rattle.bb_segment.specs.Function.{IsBitOf}
-use Rattle.bb_segment.proofs.PathLemmas.{ends_at_stop}
-use Rattle.bb_rules.specs.declared.kind.Kind.TheVariants.{State, Split, Watch}
-use Rattle.bb_rules.specs.declared.plan.Cell.{Cell}
-use Rattle.bb_rules.specs.Kinds.{is_source}
-use Rattle.bb_rules.specs.Plan.{RegisterValue, PlanValue, IsCell, chain}
-use Rattle.bb_rules.specs.Lines.{cut_nets}
-use Rattle.bb_rules.specs.Rules.{Rule, Frame, Registers, Kinds, Apart, Served, Pure, Sessions, Compacted, Room, Columns, Widths, Conflicts, Codes, Period, Holds, IsFrame, IsRegister, IsServed, HasKind, Fits, IsQ, IsGateNet, net_numbers, IsPure, IsNarrow, IsCoded, IsApart, HasNoConflict, IsListed, IsSession, AreLeavesOf, IsColumn, meet}
-use Rattle.bb_rules.specs.Valid.{IsValidPlan, IsValidFor, IsSourceOf}
-use Rattle.bb_rules.specs.Signatures.{code_at, IsLineBit, HasSignature, AreSignatures}
+use Rattle.bb_base.specs.Net.{Gate, Flop}
+use Rattle.bb_base.specs.Run.{by_op, MeetsBy}
+use Rattle.bb_base.specs.Order.{HasLevel, HasOrder}
+use Rattle.bb_base.specs.Span.{IsIndependent}
+use Rattle.bb_base.specs.Dual.{IsDual, AreLeastDuals}
+use Rattle.bb_base.specs.Parity.{code_bit}
+use Rattle.bb_terms.specs.Register.{IsMask, IsFullPeriod, state_after}
+use Rattle.bb_terms.specs.Paths.{AtNet, IsPathBack, IsLeaf}
+use Rattle.bb_terms.specs.Support.{AreLeaves}
+use Rattle.bb_terms.specs.Cuts.{is_stop_with}
+use Rattle.bb_terms.specs.Function.{IsBitOf}
+use Rattle.bb_terms.proofs.PathLemmas.{ends_at_stop}
+use Rattle.bb_terms.specs.declared.kind.Kind.TheVariants.{State, Split, Watch}
+use Rattle.bb_terms.specs.declared.plan.Cell.{Cell}
+use Rattle.bb_terms.specs.Kinds.{is_source}
+use Rattle.bb_terms.specs.Plan.{RegisterValue, PlanValue, IsCell, chain}
+use Rattle.bb_terms.specs.Lines.{cut_nets}
+use Rattle.bb_terms.specs.Rules.{Rule, Frame, Registers, Kinds, Apart, Served, Pure, Sessions, Compacted, Room, Columns, Widths, Conflicts, Codes, Period, Holds, IsFrame, IsRegister, IsServed, HasKind, Fits, IsQ, IsGateNet, net_numbers, IsPure, IsNarrow, IsCoded, IsApart, HasNoConflict, IsListed, IsSession, AreLeavesOf, IsColumn, meet}
+use Rattle.bb_terms.specs.Valid.{IsValidPlan, IsValidFor, IsSourceOf}
+use Rattle.bb_terms.specs.Signatures.{code_at, IsLineBit, HasSignature, AreSignatures}
 use Rattle.bb_rules.specs.Half.{cell_on}
 use Rattle.bb_rules.specs.Toggle.{toggle, toggle_with, toggle_plan, toggle_valid}
 use Rattle.bb_rules.proofs.HalfLemmas.{each_at, single}

@@ -1,11 +1,11 @@
 -- Which gates matter, and which lie in the segment of an observer.
 use Rattle.std.specs.Prelude.{◌≡◌, ℕ, true, false, ◌++◌, map, Contains}
-use Rattle.bb_netlist.specs.Net.{Gate, Netlist}
-use Rattle.bb_segment.specs.Paths.{Start, IsReached, LiesIn}
-use Rattle.bb_rules.specs.declared.plan.Cell.{Cell}
-use Rattle.bb_rules.specs.Kinds.{is_observer}
-use Rattle.bb_rules.specs.Plan.{PlanValue, chain}
-use Rattle.bb_rules.specs.Lines.{is_stop, IsStart}
+use Rattle.bb_base.specs.Net.{Gate, Netlist}
+use Rattle.bb_terms.specs.Paths.{Start, IsReached, LiesIn}
+use Rattle.bb_terms.specs.declared.plan.Cell.{Cell}
+use Rattle.bb_terms.specs.Kinds.{is_observer}
+use Rattle.bb_terms.specs.Plan.{PlanValue, chain}
+use Rattle.bb_terms.specs.Lines.{is_stop, IsStart}
 
 -- a path through gates leads from the gate to an output or to a flip-flop's d
 abbrev pub IsUsed : Netlist ℕ → Gate ℕ → Type 0

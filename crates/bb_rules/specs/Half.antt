@@ -1,12 +1,12 @@
 -- A worked plan: the half adder at width 2, with nets a, b, s and c.
 use Rattle.std.specs.Prelude.{ℕ, List, [], ◌∷◌}
 use Rattle.bb_base.specs.declared.operator.Op.TheVariants.{And, Xor}
-use Rattle.bb_netlist.specs.Net.{Netlist}
-use Rattle.bb_rules.specs.declared.kind.Kind.{Kind}
-use Rattle.bb_rules.specs.declared.kind.Kind.TheVariants.{Input, Output}
-use Rattle.bb_rules.specs.declared.plan.Cell.{Cell}
-use Rattle.bb_rules.specs.Plan.{PlanValue}
-use Rattle.bb_rules.specs.Valid.{ValidValue}
+use Rattle.bb_base.specs.Net.{Netlist}
+use Rattle.bb_terms.specs.declared.kind.Kind.{Kind}
+use Rattle.bb_terms.specs.declared.kind.Kind.TheVariants.{Input, Output}
+use Rattle.bb_terms.specs.declared.plan.Cell.{Cell}
+use Rattle.bb_terms.specs.Plan.{PlanValue}
+use Rattle.bb_terms.specs.Valid.{ValidValue}
 
 abbrev pub half : Netlist ℕ
 half = record {

@@ -1,10 +1,3 @@
-pub mod Kinds
-pub mod Plan
-pub mod Lines
-pub mod Rules
-pub mod Valid
-pub mod Signatures
 pub mod Half
-pub mod Sources
 pub mod Covered
 pub mod Toggle

@@ -1,11 +1,11 @@
 -- A worked plan with a flip-flop that reads itself: net 0 is its q, and net 1 its d, which is the other bit.
 use Rattle.std.specs.Prelude.{ℕ, List, [], ◌∷◌, map}
 use Rattle.bb_base.specs.declared.operator.Op.TheVariants.{Not}
-use Rattle.bb_netlist.specs.Net.{Netlist}
-use Rattle.bb_rules.specs.declared.kind.Kind.TheVariants.{Split, Watch}
-use Rattle.bb_rules.specs.declared.plan.Cell.{Cell}
-use Rattle.bb_rules.specs.Plan.{PlanValue}
-use Rattle.bb_rules.specs.Valid.{ValidValue}
+use Rattle.bb_base.specs.Net.{Netlist}
+use Rattle.bb_terms.specs.declared.kind.Kind.TheVariants.{Split, Watch}
+use Rattle.bb_terms.specs.declared.plan.Cell.{Cell}
+use Rattle.bb_terms.specs.Plan.{PlanValue}
+use Rattle.bb_terms.specs.Valid.{ValidValue}
 use Rattle.bb_rules.specs.Half.{cell_on}
 
 abbrev pub toggle : Netlist ℕ

@@ -1,23 +1,21 @@
 //! Laws about plans, as contracts of functions without a body.
 
 ghost use Rattle.std.specs.Prelude.{◌≡◌, ◌↔◌, ◌⊎◌, ◌<◌, ◌^◌, ℕ, Bool, true, false, Contains, List, [], ◌∷◌, length, map, Some, slice_get, slice_index};
-ghost use Rattle.bb_netlist.specs.Net.{Gate, Flop, Netlist, IsNetlist, driven};
-ghost use Rattle.bb_netlist.specs.Order.{HasOrder};
-ghost use Rattle.bb_segment.specs.Paths.{Start, AtNet, is_free};
-ghost use Rattle.bb_gf2.specs.Dual.{AreDuals};
-ghost use Rattle.bb_creg.specs.Register.{IsFullPeriod, state_after};
-ghost use Rattle.bb_rules.specs.declared.kind.Kind.TheVariants.{State, Split, Cut, Watch, Output};
-ghost use Rattle.bb_rules.specs.declared.plan.Cell.{Cell};
-ghost use Rattle.bb_rules.specs.Kinds.{is_source, is_flop, is_observer, has_line, takes_d};
-ghost use Rattle.bb_rules.specs.Plan.{PlanValue, IsCell, chain, observers, compacts};
-ghost use Rattle.bb_rules.specs.Lines.{d_of, is_stop, IsStart, IsLeafOf, source_of, column_of};
-ghost use Rattle.bb_rules.specs.Rules.{Holds, FailsAt, Rule, Frame, Kinds, Apart, Served, Sessions, Columns, Conflicts, Codes, Period, meet, IsInput, IsQ, HasKind};
-ghost use Rattle.bb_rules.specs.Valid.{IsValidPlan, IsValidFor, IsRuleFault, ValidValue, SegmentValue, IsSegmentOf, column_at};
-ghost use Rattle.bb_rules.specs.Signatures.{AreSignatures, code_at};
-ghost use Rattle.bb_rules.specs.Sources.{IsSourceAt, IsGenerated};
+ghost use Rattle.bb_base.specs.Net.{Gate, Flop, Netlist, IsNetlist, driven};
+ghost use Rattle.bb_base.specs.Order.{HasOrder};
+ghost use Rattle.bb_terms.specs.Paths.{Start, AtNet, is_free};
+ghost use Rattle.bb_base.specs.Dual.{AreDuals};
+ghost use Rattle.bb_terms.specs.Register.{IsFullPeriod, state_after};
+ghost use Rattle.bb_terms.specs.declared.kind.Kind.TheVariants.{State, Split, Cut, Watch, Output};
+ghost use Rattle.bb_terms.specs.declared.plan.Cell.{Cell};
+ghost use Rattle.bb_terms.specs.Kinds.{is_source, is_flop, is_observer, has_line, takes_d};
+ghost use Rattle.bb_terms.specs.Plan.{PlanValue, IsCell, chain, observers, compacts};
+ghost use Rattle.bb_terms.specs.Lines.{d_of, is_stop, IsStart, IsLeafOf, source_of, column_of};
+ghost use Rattle.bb_terms.specs.Rules.{Holds, FailsAt, Rule, Frame, Kinds, Apart, Served, Sessions, Columns, Conflicts, Codes, Period, meet, IsInput, IsQ, HasKind};
+ghost use Rattle.bb_terms.specs.Valid.{IsValidPlan, IsValidFor, IsRuleFault, ValidValue, SegmentValue, IsSegmentOf, column_at};
+ghost use Rattle.bb_terms.specs.Signatures.{AreSignatures, code_at};
+ghost use Rattle.bb_terms.specs.Sources.{IsSourceAt, IsGenerated};
 ghost use Rattle.bb_rules.specs.Covered.{IsUsed, IsCovered};
-ghost use Rattle.bb_rules.specs.Toggle.{toggle, toggle_with, toggle_plan, toggle_valid};
-ghost use Rattle.bb_rules.specs.Half.{half, half_with, half_plan, half_valid, cell_on};
 
 /// A rule holds or fails, never both, and it fails first at one place. A plan has one first fault at most, and a valid plan none.
 pub fn one_fault()
@@ -25,39 +23,6 @@ pub fn one_fault()
     ensures none { (a : Netlist ℕ) (p : PlanValue) (n x : ℕ) → IsValidPlan a p → IsRuleFault a p n x → ⊥ }
     ensures never_both { (a : Netlist ℕ) (p : PlanValue) (rule : Rule) (x : ℕ) → Holds a p Frame → Holds a p rule → FailsAt a p rule x → ⊥ }
     ensures place { (a : Netlist ℕ) (p : PlanValue) (rule : Rule) (x y : ℕ) → FailsAt a p rule x → FailsAt a p rule y → x ≡ y }
-{}
-
-/// The plan of the half adder is valid, with its segments and duals, and its signature is 2.
-pub fn half_is()
-    ensures observers { observers half_plan ≡ (2, cell_on Output 2 0) ∷ (3, cell_on Output 3 0) ∷ [] }
-    ensures full { IsFullPeriod 2 3 }
-    ensures valid { IsValidFor half half_valid }
-    ensures signed { AreSignatures half half_plan ((2 ∷ []) ∷ []) }
-{}
-
-/// Plans of the half adder that fail a rule: a mask with a tap too many, a register that a session lists twice or that none lists, a
-/// column with a bit too many, two equal columns, and a walk that is back after three steps.
-pub fn half_fails()
-    ensures mask { IsRuleFault half (half_with 4 2 ((1 ∷ []) ∷ [])) 1 0 }
-    ensures twice { IsRuleFault half (half_with 3 2 ((1 ∷ 1 ∷ []) ∷ [])) 7 0 }
-    ensures never { IsRuleFault half (half_with 3 2 []) 8 1 }
-    ensures column { IsRuleFault half (half_with 3 4 ((1 ∷ []) ∷ [])) 10 1 }
-    ensures codes { IsRuleFault half (half_with 3 1 ((1 ∷ []) ∷ [])) 13 2 }
-    ensures walk { IsRuleFault half (half_with 2 2 ((1 ∷ []) ∷ [])) 14 3 }
-{}
-
-/// The plan of a flip-flop that reads itself, with a Split and a Watch cell, is valid, and its signature is 1.
-pub fn toggle_is()
-    ensures valid { IsValidFor toggle toggle_valid }
-    ensures signed { AreSignatures toggle toggle_plan ((1 ∷ []) ∷ []) }
-{}
-
-/// Plans of that flip-flop that fail a rule: a State cell, which holds a leaf of its own line, a Watch cell without a Split cell, and a State
-/// cell beside a Watch cell.
-pub fn toggle_fails()
-    ensures itself { IsRuleFault toggle (toggle_with ((cell_on State 0 1 ∷ []) ∷ []) ((0 ∷ []) ∷ [])) 12 0 }
-    ensures alone { IsRuleFault toggle (toggle_with ((cell_on Watch 0 0 ∷ []) ∷ []) ((0 ∷ []) ∷ [])) 5 0 }
-    ensures twice { IsRuleFault toggle (toggle_with ((cell_on State 0 1 ∷ []) ∷ (cell_on Watch 0 0 ∷ []) ∷ []) ((0 ∷ []) ∷ [])) 4 1 }
 {}
 
 /// The cells of registers are those of the chain, each in one register. Where no two sources meet, a source cell is found by its

@@ -1,8 +1,8 @@
 -- Where all nets are driven by no more drivers than there are nets, each is driven once.
 use Rattle.std.proofs.Common.{arith, ◌≡◌, ℕ, suc, zero, ◌+◌, ◌<◌, ◌≤◌, Bool, true, false, List, [], ◌∷◌, length, refl, subst, nat_lt}
 use Rattle.std.proofs.lemmas.Bool.Decides.{nat_tests}
-use Rattle.bb_netlist.specs.Net.{times}
-use Rattle.bb_netlist.proofs.TimesLemmas.{total, total_none, total_past, total_more}
+use Rattle.bb_base.specs.Net.{times}
+use Rattle.bb_base.proofs.TimesLemmas.{total, total_none, total_past, total_more}
 
 -- numbers below a count stand in a list no more often than it is long
 total_few : (k : ℕ) (xs : List ℕ) → total k xs ≤ length xs

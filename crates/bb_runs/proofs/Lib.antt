@@ -1,5 +1,4 @@
 pub mod Within
-pub mod Sorting
 pub mod Orders
 pub mod Walks
 pub mod Ranks

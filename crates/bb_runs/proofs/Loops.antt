@@ -5,12 +5,12 @@ use Rattle.std.proofs.lemmas.List.Elements.{recursion_from_All}
 use Rattle.std.proofs.lemmas.Option.{slice_get_within, get_or_from_slice_get}
 use Rattle.std.proofs.lemmas.List.{drop_at}
 use Rattle.std.specs.Prelude.{Contains, AllPairs, All}
-use Rattle.bb_netlist.specs.Net.{Gate, Netlist, driven, times, IsNetlist}
-use Rattle.bb_netlist.specs.Order.{IsFirstStuck, IsLeastStuck, LeadsTo, BeginsWith, IsLoop, IsCycle}
+use Rattle.bb_base.specs.Net.{Gate, Netlist, driven, times, IsNetlist}
+use Rattle.bb_base.specs.Order.{IsFirstStuck, IsLeastStuck, LeadsTo, BeginsWith, IsLoop, IsCycle}
 use Rattle.bb_base.proofs.Lists.{all_map, all_front, all_back}
 use Rattle.bb_base.proofs.Contained.{at_place, place_of}
-use Rattle.bb_netlist.proofs.TimesLemmas.{times_head}
-use Rattle.bb_netlist.proofs.GateLemmas.{stands_once, out_at, outs_times}
+use Rattle.bb_base.proofs.TimesLemmas.{times_head}
+use Rattle.bb_base.proofs.GateLemmas.{stands_once, out_at, outs_times}
 use Rattle.bb_base.proofs.Distinct.{one_place}
 
 -- one driver ------------------------------------------------------------

@@ -2,12 +2,12 @@
 use Rattle.std.proofs.Common.{arith, ◌≡◌, ℕ, ◌<◌, List, length, map, Bool, sym, ◌∙◌}
 use Rattle.std.specs.List.{AllByRecursion}
 use Rattle.bb_base.specs.Variables.{Bit}
-use Rattle.bb_netlist.specs.Net.{Gate, renamed_gate}
-use Rattle.bb_netlist.specs.Order.{HasOrder, HasRanks}
-use Rattle.bb_netlist.specs.Run.{IsRunBy, at}
-use Rattle.bb_net.specs.Named.{Named, IsNamed, design_of, net_text}
+use Rattle.bb_base.specs.Net.{Gate, renamed_gate}
+use Rattle.bb_base.specs.Order.{HasOrder, HasRanks}
+use Rattle.bb_base.specs.Run.{IsRunBy, at}
+use Rattle.bb_base.specs.Named.{Named, IsNamed, design_of, net_text}
 use Rattle.bb_net.specs.Sites.{Site, sited, site_of}
-use Rattle.bb_netlist.proofs.Renamed.{run_back_by}
+use Rattle.bb_base.proofs.Renamed.{run_back_by}
 use Rattle.bb_net.proofs.Renaming.{at_map, net_named, finds_all}
 use Rattle.bb_net.proofs.Designs.{run_by_site, run_by_text, sites_one}
 use Rattle.bb_net.proofs.SiteLemmas.{site_eq, site_decides}

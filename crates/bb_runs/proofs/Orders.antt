@@ -5,13 +5,13 @@ use Rattle.std.proofs.lemmas.List.Elements.{All-from_recursion, recursion_from_A
 use Rattle.std.proofs.lemmas.List.Sorted.{All-permutation, Contains-permutation, IsPermutation-sym}
 use Rattle.std.specs.Prelude.{Option}
 use Rattle.std.specs.List.{AllByRecursion, list_all, range_with_len}
-use Rattle.bb_netlist.specs.Net.{Gate}
-use Rattle.bb_netlist.specs.Order.{is_within, HasLevel, IsOrder, HasOrder, ComesBefore}
-use Rattle.bb_netlist.specs.Levels.{inputs_in, inputs_at}
+use Rattle.bb_base.specs.Net.{Gate}
+use Rattle.bb_base.specs.Order.{is_within, HasLevel, IsOrder, HasOrder, ComesBefore}
+use Rattle.bb_base.specs.Levels.{inputs_in, inputs_at}
 use Rattle.bb_base.proofs.Contained.{at_place}
 use Rattle.bb_base.proofs.Lists.{get_some}
 use Rattle.bb_runs.proofs.Within.{passes_all, first_of, first_passes, first_before, ReadBelow}
-use Rattle.bb_runs.proofs.Sorting.{Ascends, pairs_ascend, never_both, sorted_by, same_ascending}
+use Rattle.bb_netlist.proofs.Sorting.{Ascends, pairs_ascend, never_both, sorted_by, same_ascending}
 
 -- where all nets' ways back end ---------------------------------------------
 

@@ -4,13 +4,13 @@ use Rattle.std.proofs.lemmas.Bool.Decides.{nat_tests}
 use Rattle.std.proofs.lemmas.Option.{slice_get_within}
 use Rattle.std.specs.Prelude.{Contains}
 use Rattle.std.specs.List.{AllByRecursion, list_all}
-use Rattle.bb_netlist.specs.Net.{Gate, Netlist, IsNetlist, renamed, renamed_gate}
-use Rattle.bb_netlist.proofs.Renamed.{Back, FindsAll}
+use Rattle.bb_base.specs.Net.{Gate, Netlist, IsNetlist, renamed, renamed_gate}
+use Rattle.bb_base.proofs.Renamed.{Back, FindsAll}
 use Rattle.bb_base.proofs.Lists.{all_map, both_map}
-use Rattle.bb_netlist.specs.Order.{drivers, is_within, is_empty, IsOrder, HasOrder, HasRanks, FallsAlong, Reads, LeadsTo, IsCycle, IsLoop}
+use Rattle.bb_base.specs.Order.{drivers, is_within, is_empty, IsOrder, HasOrder, HasRanks, FallsAlong, Reads, LeadsTo, IsCycle, IsLoop}
 use Rattle.bb_base.proofs.Contained.{of_all, to_all, by_place, place_of}
 use Rattle.bb_netlist.proofs.WalkLemmas.{loop_cycles}
-use Rattle.bb_netlist.proofs.CycleLemmas.{all_have, driver_there}
+use Rattle.bb_base.proofs.CycleLemmas.{all_have, driver_there}
 use Rattle.bb_runs.proofs.Within.{all_more, passes_all, up_to, first_of, first_low, first_passes, DrivesNet, drivers_stand}
 use Rattle.bb_runs.proofs.Walks.{order_or_loop_of}
 

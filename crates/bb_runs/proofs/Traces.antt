@@ -1,8 +1,8 @@
 -- Runs are traces, and traces are runs.
 use Rattle.std.proofs.Common.{sym, ◌≡◌, ℕ, zero, suc, ◌<◌, Bool, List, [], ◌∷◌, length, map, arith, subst, refl, ◌+◌, ap, ◌∙◌}
 use Rattle.std.specs.List.{AllByRecursion, range_with_len}
-use Rattle.bb_netlist.specs.Net.{Flop, Netlist, Gate}
-use Rattle.bb_netlist.specs.Run.{IsRunBy, SettlesBy, MeetsBy, states, next_states, at, IsTrace}
+use Rattle.bb_base.specs.Net.{Flop, Netlist, Gate}
+use Rattle.bb_base.specs.Run.{IsRunBy, SettlesBy, MeetsBy, states, next_states, at, IsTrace}
 use Rattle.bb_base.proofs.Contained.{each_same}
 
 -- maps by functions that agree at each item

@@ -4,15 +4,15 @@ use Rattle.std.proofs.lemmas.Bool.Decides.{nat_tests}
 use Rattle.std.proofs.lemmas.List.Elements.{recursion_from_All}
 use Rattle.std.specs.Prelude.{if◌then◌else◌}
 use Rattle.std.specs.List.{AllByRecursion, list_all, flat_map}
-use Rattle.bb_netlist.specs.Net.{Gate, Flop, Netlist, driven, reads, times, IsNetlist}
-use Rattle.bb_netlist.specs.Order.{drivers, is_within, is_empty, IsOrder}
-use Rattle.bb_netlist.specs.Run.{SettlesBy, IsRunBy, MeetsBy, next_states, at}
+use Rattle.bb_base.specs.Net.{Gate, Flop, Netlist, driven, reads, times, IsNetlist}
+use Rattle.bb_base.specs.Order.{drivers, is_within, is_empty, IsOrder}
+use Rattle.bb_base.specs.Run.{SettlesBy, IsRunBy, MeetsBy, next_states, at}
 use Rattle.bb_base.proofs.Lists.{all_map, all_back, all_join, map_join, map_twice, length_map, same_map_at}
 use Rattle.bb_base.proofs.Contained.{of_all, by_place, each_same, map_on}
-use Rattle.bb_netlist.proofs.TimesLemmas.{times_join, times_head}
-pub use Rattle.bb_netlist.proofs.TimesLemmas.{standing}
-use Rattle.bb_netlist.proofs.CycleLemmas.{driver_there}
-use Rattle.bb_netlist.proofs.GateLemmas.{outs_times, at_most_one}
+use Rattle.bb_base.proofs.TimesLemmas.{times_join, times_head}
+pub use Rattle.bb_base.proofs.TimesLemmas.{standing}
+use Rattle.bb_base.proofs.CycleLemmas.{driver_there}
+use Rattle.bb_base.proofs.GateLemmas.{outs_times, at_most_one}
 use Rattle.bb_runs.proofs.Within.{DrivesNet, drivers_stand}
 use Rattle.bb_runs.proofs.Walks.{netlist_reads}
 use Rattle.bb_runs.proofs.Ranks.{top, all_within}

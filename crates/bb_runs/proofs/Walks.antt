@@ -4,8 +4,8 @@ use Rattle.std.proofs.lemmas.Bool.Decides.{nat_tests}
 use Rattle.std.proofs.lemmas.List.Elements.{recursion_from_All}
 use Rattle.std.specs.Prelude.{AllPairs}
 use Rattle.std.specs.List.{AllByRecursion, list_all, flat_map}
-use Rattle.bb_netlist.specs.Net.{Gate, Netlist, driven, reads, IsNetlist}
-use Rattle.bb_netlist.specs.Order.{drivers, is_within, IsFirstStuck, IsLeastStuck, LeadsTo, BeginsWith, IsLoop, HasOrder}
+use Rattle.bb_base.specs.Net.{Gate, Netlist, driven, reads, IsNetlist}
+use Rattle.bb_base.specs.Order.{drivers, is_within, IsFirstStuck, IsLeastStuck, LeadsTo, BeginsWith, IsLoop, HasOrder}
 use Rattle.bb_base.proofs.Lists.{all_front, all_back, all_join, all_parts}
 use Rattle.bb_base.proofs.Contained.{at_place}
 use Rattle.bb_netlist.proofs.WalkLemmas.{leads_more, begins_more, once_more, take_drop, drop_begins, begins_front, begins_as}

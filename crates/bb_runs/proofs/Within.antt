@@ -5,8 +5,8 @@ use Rattle.std.proofs.lemmas.List.FromFn.{length-range_with_len}
 use Rattle.std.proofs.lemmas.List.Sums.{sum_by-cons, count_by-le-length}
 use Rattle.std.specs.Prelude.{Contains, count_by, if◌then◌else◌}
 use Rattle.std.specs.List.{AllByRecursion, list_all, range_with_len}
-use Rattle.bb_netlist.specs.Net.{Gate}
-use Rattle.bb_netlist.specs.Order.{drivers, is_within, is_empty, IsStuck}
+use Rattle.bb_base.specs.Net.{Gate}
+use Rattle.bb_base.specs.Order.{drivers, is_within, is_empty, IsStuck}
 use Rattle.bb_base.proofs.Contained.{here, there}
 
 -- tests of all items of a list

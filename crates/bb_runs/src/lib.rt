@@ -5,7 +5,7 @@
 //! - A run is a trace, and a trace a run.
 //! - Where all nets are driven by no more drivers than there are nets, each has exactly one.
 //!
-//! The definitions stand in `bb_netlist`. All of this holds for any meaning of gates.
+//! The definitions stand in `bb_base`. All of this holds for any meaning of gates.
 #![tactic(auto)]
 
 mod order;

@@ -1,8 +1,8 @@
 //! Laws about orders and loops, as contracts of functions without a body.
 
 ghost use Rattle.std.specs.Prelude.{◌≡◌, ◌<◌, ◌≤◌, ◌↔◌, ◌⊎◌, ℕ, List, length};
-ghost use Rattle.bb_netlist.specs.Net.{Gate as GateValue, Netlist, driven, times, IsNetlist};
-ghost use Rattle.bb_netlist.specs.Order.{IsOrder, HasOrder, HasRanks, IsLoop, IsCycle};
+ghost use Rattle.bb_base.specs.Net.{Gate as GateValue, Netlist, driven, times, IsNetlist};
+ghost use Rattle.bb_base.specs.Order.{IsOrder, HasOrder, HasRanks, IsLoop, IsCycle};
 
 /// Gates have one order: by level, then by number.
 pub fn one_order()

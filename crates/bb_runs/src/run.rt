@@ -2,9 +2,9 @@
 
 ghost use Rattle.std.specs.Prelude.{◌≡◌, ◌<◌, ℕ, List, Bool, length, map};
 ghost use Rattle.std.specs.List.{AllByRecursion, range_with_len};
-ghost use Rattle.bb_netlist.specs.Net.{Gate as GateValue, Netlist, driven, IsNetlist};
-ghost use Rattle.bb_netlist.specs.Order.{HasOrder};
-ghost use Rattle.bb_netlist.specs.Run.{SettlesBy, IsRunBy, IsTrace, at, states};
+ghost use Rattle.bb_base.specs.Net.{Gate as GateValue, Netlist, driven, IsNetlist};
+ghost use Rattle.bb_base.specs.Order.{HasOrder};
+ghost use Rattle.bb_base.specs.Run.{SettlesBy, IsRunBy, IsTrace, at, states};
 
 /// A netlist with an order has, for given bits of inputs and flip-flops, a valuation, and any two agree at each net.
 pub fn one_valuation()

@@ -2,10 +2,10 @@
 
 ghost use Rattle.std.specs.Prelude.{◌≡◌, ◌<◌, ◌↔◌, ℕ, List, Bool, length, map};
 ghost use Rattle.std.specs.List.{AllByRecursion, range_with_len};
-ghost use Rattle.bb_netlist.specs.Net.{Gate as GateValue, Netlist};
-ghost use Rattle.bb_netlist.specs.Order.{HasOrder, HasRanks, IsCycle};
-ghost use Rattle.bb_netlist.specs.Run.{IsRunBy, IsTrace, at, states};
-ghost use Rattle.bb_net.specs.Named.{Named as NamedValue, IsNamed, design_of};
+ghost use Rattle.bb_base.specs.Net.{Gate as GateValue, Netlist};
+ghost use Rattle.bb_base.specs.Order.{HasOrder, HasRanks, IsCycle};
+ghost use Rattle.bb_base.specs.Run.{IsRunBy, IsTrace, at, states};
+ghost use Rattle.bb_base.specs.Named.{Named as NamedValue, IsNamed, design_of};
 ghost use Rattle.bb_net.specs.Sites.{Site, sited, site_of};
 ghost use Rattle.bb_base.specs.Variables.{Bit};
 

@@ -2,8 +2,8 @@
 use Rattle.std.proofs.Common.{◌≡◌, ℕ, ◌+◌, ◌*◌, ◌<◌, [], ◌∷◌, refl, sym, ap, ◌∙◌, arith, add-one}
 use Rattle.std.proofs.lemmas.Nat.{mod_below}
 use Rattle.bb_base.specs.declared.operator.Op.{Op}
-use Rattle.bb_net.specs.Named.{Named}
-use Rattle.bb_net.specs.Building.{with_gate, with_gates, with_flop, with_flops}
+use Rattle.bb_base.specs.Named.{Named}
+use Rattle.bb_base.specs.Building.{with_gate, with_gates, with_flop, with_flops}
 use Rattle.bb_sample.specs.Draws.{generator_step, generator_after, drawn, draw}
 use Rattle.bb_sample.specs.Sample.{pool_size, pool_net, gate_net, state_net, operator_of, gate_at, flop_at}
 

@@ -5,9 +5,9 @@ use Rattle.std.proofs.lemmas.List.FromFn.{map-range_with_len_more, length-map-ra
 use Rattle.std.specs.List.{AllByRecursion, range_with_len, flat_map}
 use Rattle.bb_base.specs.Operators.{IsArity}
 use Rattle.bb_base.proofs.Lists.{all_join, all_map_back}
-use Rattle.bb_netlist.specs.Net.{Gate, Flop, reads, HasArity}
-use Rattle.bb_net.specs.Named.{Named}
-use Rattle.bb_net.specs.Building.{with_gates, with_flops}
+use Rattle.bb_base.specs.Net.{Gate, Flop, reads, HasArity}
+use Rattle.bb_base.specs.Named.{Named}
+use Rattle.bb_base.specs.Building.{with_gates, with_flops}
 use Rattle.bb_sample.specs.Draws.{draw, generator_after}
 use Rattle.bb_sample.specs.Sample.{input_count, output_count, flop_count, net_count, gate_net, pool_size, pool_net, operator_of, gate_at, buffer_at, flop_at, sample_netlist}
 use Rattle.bb_sample.proofs.DrawLemmas.{drawn_below}

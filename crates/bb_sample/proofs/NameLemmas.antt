@@ -8,8 +8,8 @@ use Rattle.bb_base.specs.declared.variable.BitName.{BitName}
 use Rattle.bb_base.specs.OwnNames.{is_reserved}
 use Rattle.bb_base.specs.Variables.{Entry, StandsBefore, bit_at, bit_count}
 use Rattle.bb_base.proofs.Lists.{all_join}
-use Rattle.bb_net.specs.Named.{IsByBits}
-use Rattle.bb_runs.proofs.Sorting.{Ascends, ascend_pairs}
+use Rattle.bb_base.specs.Named.{IsByBits}
+use Rattle.bb_netlist.proofs.Sorting.{Ascends, ascend_pairs}
 use Rattle.bb_sample.specs.Sample.{input_count, output_count, flop_count, bits_of, variables_of, bits_of_vectors, is_clocked, sample_of}
 use Rattle.bb_sample.proofs.NetLemmas.{inputs_are}
 use Rattle.bb_sample.proofs.GateLemmas.{all_given}

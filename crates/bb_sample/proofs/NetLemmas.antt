@@ -4,8 +4,8 @@ use Rattle.std.proofs.lemmas.Bool.Decides.{nat_tests}
 use Rattle.std.proofs.lemmas.List.Elements.{All-weaker, All-append}
 use Rattle.std.proofs.lemmas.List.FromFn.{length-range_with_len}
 use Rattle.std.specs.List.{range_with_len}
-use Rattle.bb_netlist.specs.Net.{Gate, Flop, times, driven}
-use Rattle.bb_netlist.proofs.TimesLemmas.{times_join, times_head, times_range_before, times_past}
+use Rattle.bb_base.specs.Net.{Gate, Flop, times, driven}
+use Rattle.bb_base.proofs.TimesLemmas.{times_join, times_head, times_range_before, times_past}
 use Rattle.bb_base.proofs.Lists.{map_join, map_twice}
 use Rattle.bb_net.proofs.VariableLemmas.{range_in}
 use Rattle.bb_sample.specs.Sample.{input_count, output_count, flop_count, net_count, gate_net, pool_size, pool_net, gate_at, buffer_at, flop_at, sample_netlist}

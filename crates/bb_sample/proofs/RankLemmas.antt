@@ -3,7 +3,7 @@ use Rattle.std.proofs.Common.{◌≡◌, ℕ, ◌+◌, ◌-◌, ◌*◌, ◌<◌
 use Rattle.std.proofs.lemmas.Bool.Decides.{nat_tests}
 use Rattle.std.specs.List.{range_with_len}
 use Rattle.bb_base.proofs.Lists.{all_join}
-use Rattle.bb_netlist.specs.Order.{HasOrder, HasRanks, FallsAlong}
+use Rattle.bb_base.specs.Order.{HasOrder, HasRanks, FallsAlong}
 use Rattle.bb_runs.proofs.Ranks.{ranks_order}
 use Rattle.bb_sample.specs.Draws.{draw, generator_after}
 use Rattle.bb_sample.specs.Sample.{input_count, output_count, flop_count, gate_net, pool_size, pool_net, gate_at, buffer_at, sample_netlist, sample_of}

@@ -8,8 +8,8 @@ use Rattle.bb_base.specs.declared.variable.Role.TheVariants.{Input, Output, Wire
 use Rattle.bb_base.specs.declared.variable.Variable.{Variable}
 use Rattle.bb_base.specs.Name.{IsName, IsNameByte}
 use Rattle.bb_base.specs.Variables.{Entry, is_port}
-use Rattle.bb_net.specs.Named.{Named, IsConsistent}
-use Rattle.bb_net.specs.Building.{started, with_variable, with_gates, with_flops, MayClock}
+use Rattle.bb_base.specs.Named.{Named, IsConsistent}
+use Rattle.bb_base.specs.Building.{started, with_variable, with_gates, with_flops, MayClock}
 use Rattle.bb_net.proofs.ConsistentLemmas.{started_fits}
 use Rattle.bb_net.proofs.VariableLemmas.{variable_fits}
 use Rattle.bb_sample.specs.Sample.{input_count, output_count, flop_count, is_clocked, net_count, bits_of, variables_of, sample_clock, bits_of_vectors, gate_at, buffer_at, flop_at, sample_of}

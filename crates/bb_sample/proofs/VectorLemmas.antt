@@ -10,9 +10,9 @@ use Rattle.bb_base.specs.declared.variable.Role.TheVariants.{Input, Output, Wire
 use Rattle.bb_base.specs.declared.variable.BitName.{BitName}
 use Rattle.bb_base.specs.Variables.{IsBit, IsRange, is_port, range_width, bit_at}
 use Rattle.bb_base.proofs.Lists.{in_front}
-use Rattle.bb_netlist.specs.Net.{driven, reads}
-use Rattle.bb_net.specs.Named.{Named, IsConsistent}
-use Rattle.bb_net.specs.Building.{with_variable, with_net, port_bits, IsEarlier}
+use Rattle.bb_base.specs.Net.{driven, reads}
+use Rattle.bb_base.specs.Named.{Named, IsConsistent}
+use Rattle.bb_base.specs.Building.{with_variable, with_net, port_bits, IsEarlier}
 use Rattle.bb_net.proofs.ConsistentLemmas.{names_kept}
 use Rattle.bb_net.proofs.PlaceLemmas.{bit_pushed, still_earlier}
 use Rattle.bb_net.proofs.VariableLemmas.{at_end, variable_fits}

@@ -1,8 +1,8 @@
 -- A sample is a named netlist.
 use Rattle.std.proofs.Common.{◌≡◌, ◌↔◌, ℕ, ◌<◌, ◌≤◌, Bool, true, false, List, length, All, IsSome, refl, sym, ap, subst, ◌∙◌, arith}
 use Rattle.std.proofs.lemmas.List.FromFn.{length-map-range_with_len}
-use Rattle.bb_netlist.specs.Net.{driven, reads, times, IsNetlist}
-use Rattle.bb_net.specs.Named.{IsNamed, IsConsistent}
+use Rattle.bb_base.specs.Net.{driven, reads, times, IsNetlist}
+use Rattle.bb_base.specs.Named.{IsNamed, IsConsistent}
 use Rattle.bb_sample.specs.Sample.{input_count, output_count, flop_count, is_clocked, net_count, sample_clock, flop_at, sample_netlist, sample_of}
 use Rattle.bb_sample.proofs.NetLemmas.{driven_long, driven_once, driven_below, sample_driven}
 use Rattle.bb_sample.proofs.GateLemmas.{reads_below, all_fit}

@@ -7,8 +7,8 @@ use Rattle.bb_base.specs.declared.variable.Role.TheVariants.{Input, Output, Wire
 use Rattle.bb_base.specs.declared.variable.BitName.{BitName}
 use Rattle.bb_base.specs.Name.{IsName}
 use Rattle.bb_base.specs.Variables.{IsBit, is_input, is_output, is_port, bit_at}
-use Rattle.bb_net.specs.Named.{Named, IsConsistent, lookup_of}
-use Rattle.bb_net.specs.Building.{net_limit}
+use Rattle.bb_base.specs.Named.{Named, IsConsistent, lookup_of}
+use Rattle.bb_base.specs.Building.{net_limit}
 use Rattle.bb_sample.specs.Sample.{vector, bits_of, clock_entry, sample_clock, input_count, output_count, flop_count}
 
 -- these names behind the others

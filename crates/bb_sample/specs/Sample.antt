@@ -11,8 +11,8 @@ use Rattle.bb_base.specs.declared.variable.Role.TheVariants.{Input, Output, Wire
 use Rattle.bb_base.specs.declared.variable.Variable.{Variable}
 use Rattle.bb_base.specs.declared.variable.BitName.{BitName}
 use Rattle.bb_base.specs.Variables.{Entry, bit_at}
-use Rattle.bb_netlist.specs.Net.{Gate, Flop, Netlist}
-use Rattle.bb_net.specs.Named.{Named}
+use Rattle.bb_base.specs.Net.{Gate, Flop, Netlist}
+use Rattle.bb_base.specs.Named.{Named}
 use Rattle.bb_sample.specs.Draws.{draw}
 
 -- how many inputs a sample has beside the clock

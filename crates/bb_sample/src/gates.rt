@@ -3,7 +3,7 @@
 ghost use Rattle.std.specs.Prelude.{◌≡◌, ◌+◌, ◌*◌, ◌<◌, ◌≤◌, ◌^◌, ◌-◌, ◌∷◌, [], All, OnOk, length, map};
 ghost use Rattle.std.specs.List.{range_with_len};
 ghost use Rattle.bb_base.specs.Operators.{IsArity};
-ghost use Rattle.bb_net.specs.Building.{with_gate, with_gates, with_flops};
+ghost use Rattle.bb_base.specs.Building.{with_gate, with_gates, with_flops};
 ghost use Rattle.bb_sample.specs.Draws.{generator_step, generator_after, drawn};
 ghost use Rattle.bb_sample.specs.Sample.{output_count, flop_count, net_count, gate_net, pool_size, pool_net, operator_of, gate_at, buffer_at, flop_at};
 
@@ -12,9 +12,8 @@ use crate::nets::{
     flop_count, gate_net, operator_of, output_count, output_net, pool_net, pool_size, state_net,
 };
 use crate::ports::out_of_memory;
-use bb_base::Op;
+use bb_base::{NetId, Op};
 use bb_net::Builder;
-use bb_netlist::NetId;
 use std::alloc::AllocError;
 
 /// Draws an operator.

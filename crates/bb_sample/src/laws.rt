@@ -4,8 +4,8 @@ ghost use Rattle.std.specs.Prelude.{◌≡◌, ◌≤◌, ◌++◌, ℕ, false, 
 ghost use Rattle.std.specs.List.{range_with_len};
 ghost use Rattle.bb_base.specs.OwnNames.{is_reserved};
 ghost use Rattle.bb_base.specs.Variables.{bit_count};
-ghost use Rattle.bb_netlist.specs.Order.{HasOrder};
-ghost use Rattle.bb_net.specs.Named.{IsNamed, IsByBits};
+ghost use Rattle.bb_base.specs.Order.{HasOrder};
+ghost use Rattle.bb_base.specs.Named.{IsNamed, IsByBits};
 ghost use Rattle.bb_sample.specs.Draws.{generator_after, draw};
 ghost use Rattle.bb_sample.specs.Sample.{input_count, flop_count, state_net, gate_net, pool_size, pool_net, sample_of};
 

@@ -4,8 +4,7 @@ ghost use Rattle.std.specs.Prelude.{◌≡◌, ◌+◌, ◌<◌, ◌≤◌};
 ghost use Rattle.bb_base.specs.Operators.{IsArity};
 ghost use Rattle.bb_sample.specs.Sample.{input_count, output_count, flop_count, is_clocked, net_count, output_net, state_net, gate_net, pool_size, pool_net, operator_of};
 
-use bb_base::Op;
-use bb_netlist::NetId;
+use bb_base::{NetId, Op};
 
 /// How many inputs there are beside the clock.
 #[tactic(auto, unfolding(crate::specs::Sample::input_count))]

@@ -3,14 +3,13 @@
 ghost use Rattle.std.specs.Prelude.{◌≡◌, ◌≤◌, ◌<◌, ◌+◌, ◌∷◌, [], true, All, IfOk, OnOk, None, codes, length};
 ghost use Rattle.std.specs.Option.{ForSome};
 ghost use Rattle.bb_base.specs.Variables.{IsBit, is_port, bit_at};
-ghost use Rattle.bb_net.specs.Building.{started, with_variable, net_limit, IsEarlier};
+ghost use Rattle.bb_base.specs.Building.{started, with_variable, net_limit, IsEarlier};
 ghost use Rattle.bb_sample.specs.Sample.{vector_of, bits_of, is_clocked};
 ghost use Rattle.bb_sample.specs.Laying.{with_more_bits, with_vector, CanAdd, CanMake, begun, with_ports, with_states, laid};
 
 use crate::nets::{flop_count, input_count, is_clocked, output_count};
-use bb_base::{Name, Role};
+use bb_base::{Name, NetFault, Role};
 use bb_net::Builder;
-use bb_netlist::NetFault;
 use std::alloc::{AllocError, Global};
 
 /// Want of memory, where a builder's fault is that.

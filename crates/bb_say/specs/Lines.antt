@@ -3,8 +3,8 @@ use Rattle.std.specs.Prelude.{ℕ, List, [], ◌∷◌, ◌++◌, codes, decimal
 use Rattle.bb_fault.specs.declared.fault.ElabFault.{ElabFault}
 use Rattle.bb_fault.specs.declared.fault.ElabFault.TheVariants.{Reserved, Redeclared, BadPort, TooMany, UnknownCell, BadPins, BadSelect, WidthDiffers, TooWide, TwoDrivers, Undriven, ClockNotInput, TwoClocks, ClockAsData, Loop, NoMemory}
 use Rattle.bb_spell.specs.Spelling.{stands_plain, spelled_index}
-use Rattle.bb_lex.specs.declared.fault.LexFault.{LexFault}
-use Rattle.bb_lex.specs.declared.fault.LexFault.TheVariants as lexical
+use Rattle.bb_base.specs.declared.lex_fault.LexFault.{LexFault}
+use Rattle.bb_base.specs.declared.lex_fault.LexFault.TheVariants as lexical
 use Rattle.bb_parse.specs.declared.fault.ParseFault.{ParseFault}
 use Rattle.bb_parse.specs.declared.fault.ParseFault.TheVariants as grammar
 use Rattle.bb_say.specs.declared.refusal.TextRefusal.{TextRefusal}

@@ -1,8 +1,7 @@
 //! Why a call is refused.
 
-use bb_base::Name;
+use bb_base::{LexFault, Name};
 use bb_fault::ElabFault;
-use bb_lex::LexFault;
 use bb_parse::ParseFault;
 
 /// Why a text denotes no netlist.

@@ -5,9 +5,8 @@ ghost use Rattle.bb_say.specs.Lines.{said, lex_words, parse_words, elab_words, t
 
 use crate::refusal::TextRefusal;
 use crate::spelled::{put_at_line, put_counted, put_said};
-use bb_base::Name;
+use bb_base::{LexFault, Name};
 use bb_fault::ElabFault;
-use bb_lex::LexFault;
 use bb_parse::ParseFault;
 use std::alloc::{AllocError, Global};
 

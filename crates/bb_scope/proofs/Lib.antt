@@ -1,6 +1,9 @@
 pub mod SaidLaws
 pub mod ScopeLaws
-pub mod TableLaws
 pub mod UseLaws
-pub mod UsedLaws
 pub mod CellLaws
+pub mod Operators
+pub mod Expressions
+pub mod Assigns
+pub mod Instances
+pub mod Counting

@@ -9,3 +9,8 @@ pub mod Said
 pub mod Uses
 pub mod Numbers
 pub mod Terminals
+pub mod Sizes
+pub mod Parts
+pub mod Text
+pub mod Making
+pub mod ValueSizes

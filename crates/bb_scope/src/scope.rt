@@ -8,9 +8,8 @@ ghost use Rattle.bb_scope.specs.Numbers.{places_from};
 ghost use Rattle.bb_scope.specs.Uses.{AreNext};
 
 use crate::references::{Span, selected};
-use bb_base::{Name, Variable};
+use bb_base::{Name, NetId, Variable};
 use bb_fault::range_width;
-use bb_netlist::NetId;
 use bb_parse::Ref;
 use indexmap::IndexMap;
 use std::alloc::{AllocError, Global};

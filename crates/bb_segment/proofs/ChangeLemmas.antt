@@ -1,10 +1,10 @@
 -- A change of gates outside a segment leaves its function.
 use Rattle.std.proofs.Common.{◌≡◌, ◌⊎◌, ◌↔◌, inl, inr, ℕ, Bool, List, map, refl, sym, ap, ◌∙◌, None, Contains}
-use Rattle.bb_netlist.specs.Net.{Gate}
-use Rattle.bb_netlist.specs.Run.{by_op}
-use Rattle.bb_segment.specs.Paths.{Start, AtNet, Behind, LiesBehind, LiesIn}
-use Rattle.bb_segment.specs.Function.{line_bit, IsBitOf}
-use Rattle.bb_segment.specs.Change.{Change, by_table, gives_by, IsChangeOf}
+use Rattle.bb_base.specs.Net.{Gate}
+use Rattle.bb_base.specs.Run.{by_op}
+use Rattle.bb_terms.specs.Paths.{Start, AtNet, Behind, LiesBehind, LiesIn}
+use Rattle.bb_terms.specs.Function.{line_bit, IsBitOf}
+use Rattle.bb_terms.specs.Change.{Change, by_table, gives_by, IsChangeOf}
 
 module _ (gates others : List (Gate ℕ)) (stop : ℕ → Bool) (f : Change ℕ) (bits : ℕ → Bool) (bit : Bool) (is : IsChangeOf others f) where
   -- a gate whose output no changed gate drives gives what it did

@@ -2,10 +2,10 @@
 use Rattle.std.proofs.Common.{◌≡◌, ◌⊎◌, inl, inr, ℕ, zero, suc, ◌<◌, ◌≤◌, List, [], ◌∷◌, ◌++◌, length, refl, sym, ap, subst, ◌∙◌, arith, Contains, slice_get, Some}
 use Rattle.std.specs.List.Sorted.{IsPermutation}
 use Rattle.std.proofs.lemmas.List.Sorted.{Contains-permutation, IsPermutation-sym}
-use Rattle.bb_netlist.specs.Net.{Gate}
+use Rattle.bb_base.specs.Net.{Gate}
 use Rattle.bb_base.proofs.Contained.{contains_at}
-use Rattle.bb_segment.specs.Paths.{Start, AtNet}
-use Rattle.bb_segment.specs.Cuts.{is_stop_with, HasSupport, IsCutRather, IsNextCut, AreTurns, AreCuts}
+use Rattle.bb_terms.specs.Paths.{Start, AtNet}
+use Rattle.bb_terms.specs.Cuts.{is_stop_with, HasSupport, IsCutRather, IsNextCut, AreTurns, AreCuts}
 use Rattle.bb_segment.proofs.SupportLemmas.{one_support, ascending_same}
 
 module _ (gates : List (Gate ℕ)) (order : List ℕ) (width : ℕ) where

@@ -1,10 +1,10 @@
 -- Leaves by one step of a walk: at a stop, at an open net, and behind a gate.
 use Rattle.std.proofs.Common.{◌≡◌, ◌⊎◌, ◌↔◌, inl, inr, List, [], ◌∷◌, Bool, true, false, sym, ap, subst, ◌∙◌, Contains}
 use Rattle.std.specs.List.{AllByRecursion}
-use Rattle.bb_netlist.specs.Net.{Gate}
+use Rattle.bb_base.specs.Net.{Gate}
 use Rattle.bb_base.proofs.Contained.{here, either, none_in, of_all}
-use Rattle.bb_segment.specs.Paths.{AtNet, Behind, IsPathBack, IsReached, IsLeaf, LiesBehind}
-use Rattle.bb_segment.proofs.PathLemmas.{reached_here, ends_at_stop}
+use Rattle.bb_terms.specs.Paths.{AtNet, Behind, IsPathBack, IsReached, IsLeaf, LiesBehind}
+use Rattle.bb_terms.proofs.PathLemmas.{reached_here, ends_at_stop}
 
 module _ {N : Type 0} (gates : List (Gate N)) (stop : N → Bool) where
   only_first : (m x : N) → Contains (m ∷ []) x → m ≡ x

@@ -1,9 +1,6 @@
 pub mod Outcomes
-pub mod PathLemmas
-pub mod FunctionLemmas
 pub mod SupportLemmas
 pub mod LeafLemmas
-pub mod ReadLemmas
 pub mod StartLemmas
 pub mod SetLemmas
 pub mod WalkLemmas

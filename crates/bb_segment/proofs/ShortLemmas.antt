@@ -2,10 +2,10 @@
 use Rattle.std.proofs.Common.{arith, ◌≡◌, ℕ, ◌<◌, ◌≤◌, ◌||◌, Bool, true, false, List, [], ◌∷◌, ◌++◌, length, refl, sym, subst, Contains, nat_lt, append-nil, append_assoc}
 use Rattle.std.proofs.lemmas.Bool.Decides.{nat_tests}
 use Rattle.std.proofs.lemmas.List.Sorted.{Contains-permutation, IsPermutation-sym}
-use Rattle.bb_netlist.specs.Net.{Gate}
-use Rattle.bb_segment.specs.Paths.{Behind, is_free}
-use Rattle.bb_segment.specs.Support.{AreLeaves}
-use Rattle.bb_segment.specs.Cuts.{is_stop_with, IsTooWide, AreTurns, AreCuts}
+use Rattle.bb_base.specs.Net.{Gate}
+use Rattle.bb_terms.specs.Paths.{Behind, is_free}
+use Rattle.bb_terms.specs.Support.{AreLeaves}
+use Rattle.bb_terms.specs.Cuts.{is_stop_with, IsTooWide, AreTurns, AreCuts}
 use Rattle.bb_segment.proofs.SetLemmas.{same_members}
 
 -- after the last turn

@@ -2,11 +2,11 @@
 use Rattle.std.proofs.Common.{◌≡◌, ℕ, ◌<◌, Bool, List, length, refl, sym, ap, subst, ◌∙◌, get_or, slice_get, Some, Contains}
 use Rattle.std.specs.Option.{option_map}
 use Rattle.std.proofs.lemmas.Option.{slice_get-get_or}
-use Rattle.bb_netlist.specs.Net.{Gate, Netlist}
-use Rattle.bb_segment.specs.declared.start.Start.{Start as CodeStart}
-use Rattle.bb_segment.specs.declared.start.Start.TheVariants.{Net, Gate as GateNumber}
-use Rattle.bb_segment.specs.Paths.{Start, AtNet, Behind, starts, IsReached}
-use Rattle.bb_segment.specs.Support.{stop_at, start_in, StartExists, AreLeaves, HasLeaves}
+use Rattle.bb_base.specs.Net.{Gate, Netlist}
+use Rattle.bb_terms.specs.declared.start.Start.{Start as CodeStart}
+use Rattle.bb_terms.specs.declared.start.Start.TheVariants.{Net, Gate as GateNumber}
+use Rattle.bb_terms.specs.Paths.{Start, AtNet, Behind, starts, IsReached}
+use Rattle.bb_terms.specs.Support.{stop_at, start_in, StartExists, AreLeaves, HasLeaves}
 use Rattle.bb_segment.specs.Among.{AreStops}
 use Rattle.bb_base.proofs.Lists.{get_some}
 

@@ -2,10 +2,10 @@
 use Rattle.std.proofs.Common.{◌≡◌, ◌⊎◌, inl, inr, ℕ, suc, ◌+◌, ◌<◌, List, [], ◌∷◌, refl, sym, subst, arith, Bool, Contains, slice_index}
 use Rattle.std.proofs.lemmas.List.Kept.{AllPairs-from_increasing}
 use Rattle.std.specs.List.Sorted.{IsStrictlyIncreasing}
-use Rattle.bb_netlist.specs.Net.{Gate}
+use Rattle.bb_base.specs.Net.{Gate}
 use Rattle.bb_base.proofs.Contained.{here, there, either, none_in}
-use Rattle.bb_segment.specs.Paths.{Start}
-use Rattle.bb_segment.specs.Support.{AreLeaves}
+use Rattle.bb_terms.specs.Paths.{Start}
+use Rattle.bb_terms.specs.Support.{AreLeaves}
 
 head_below : (x : ℕ) (xs : List ℕ) (n : ℕ) → IsStrictlyIncreasing (x ∷ xs) → Contains xs n → x < n
 head_below x xs n up h =

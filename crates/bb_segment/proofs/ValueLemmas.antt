@@ -4,12 +4,12 @@ use Rattle.std.proofs.lemmas.Bool.Decides.{nat_tests}
 use Rattle.std.specs.List.{list_all}
 use Rattle.std.proofs.lemmas.Option.{slice_get_within}
 use Rattle.bb_base.proofs.Contained.{here, there, either, none_in, map_on, place_of}
-use Rattle.bb_netlist.specs.Net.{Gate}
-use Rattle.bb_netlist.specs.Run.{MeetsBy}
-use Rattle.bb_netlist.specs.Order.{drivers, is_empty, is_within, IsOrder}
-use Rattle.bb_segment.specs.Paths.{Start}
-use Rattle.bb_segment.specs.Function.{line_bit, IsBitOf}
-use Rattle.bb_segment.proofs.FunctionLemmas.{passes}
+use Rattle.bb_base.specs.Net.{Gate}
+use Rattle.bb_base.specs.Run.{MeetsBy}
+use Rattle.bb_base.specs.Order.{drivers, is_empty, is_within, IsOrder}
+use Rattle.bb_terms.specs.Paths.{Start}
+use Rattle.bb_terms.specs.Function.{line_bit, IsBitOf}
+use Rattle.bb_terms.proofs.FunctionLemmas.{passes}
 
 all_have : {X : Type 0} (test : X → Bool) (xs : List X) → ((x : X) → Contains xs x → test x ≡ true) → list_all test xs ≡ true
 all_have test [] h = refl

@@ -7,12 +7,12 @@ use Rattle.std.proofs.lemmas.List.Sums.{sum_by-set, count_by-le-length}
 use Rattle.std.proofs.lemmas.List.Elements.{Contains-append_left, Contains-push, Contains-push_cases}
 use Rattle.std.proofs.lemmas.Option.{slice_get_within, slice_get-get_or}
 use Rattle.std.specs.Prelude.{AllPairs, count_by}
-use Rattle.bb_netlist.specs.Net.{Gate}
-use Rattle.bb_netlist.specs.Order.{Reads}
-use Rattle.bb_segment.specs.Paths.{IsReached, IsPathBack}
+use Rattle.bb_base.specs.Net.{Gate}
+use Rattle.bb_base.specs.Order.{Reads}
+use Rattle.bb_terms.specs.Paths.{IsReached, IsPathBack}
 use Rattle.bb_segment.specs.Walks.{is_marked_net, IsMet, HasMore, IsWalk}
 use Rattle.bb_base.proofs.Contained.{here, there, either, none_in, place_of, contains_at}
-use Rattle.bb_segment.proofs.PathLemmas.{reached_more, reached_here}
+use Rattle.bb_terms.proofs.PathLemmas.{reached_more, reached_here}
 
 -- a mark that doesn't stand leaves room for it
 room : (marks : List Bool) (net : ℕ) → net < length marks → is_marked_net marks net ≡ false → count_by (λ b. b) marks < length marks

@@ -1,8 +1,8 @@
 -- What a walk keeps: marks of the nets that were met, and the nets in the order in which they were. No public contract but `Walk`'s cites this.
 use Rattle.std.specs.Prelude.{◌≡◌, ◌≢◌, ◌↔◌, ◌⊎◌, ℕ, ◌<◌, ◌^◌, Bool, true, false, List, length, take, count_by, Some, slice_get, slice_index_or, AllPairs, Contains}
-use Rattle.bb_netlist.specs.Net.{Gate}
-use Rattle.bb_netlist.specs.Order.{Reads}
-use Rattle.bb_segment.specs.Paths.{IsReached}
+use Rattle.bb_base.specs.Net.{Gate}
+use Rattle.bb_base.specs.Order.{Reads}
+use Rattle.bb_terms.specs.Paths.{IsReached}
 
 -- the net is marked
 abbrev pub is_marked_net : List Bool → ℕ → Bool

@@ -3,14 +3,14 @@
 ghost use Rattle.std.specs.Prelude.{◌≡◌, ◌≤◌, ◌↔◌, ◌++◌, length, ℕ, Bool, true, false, List, map, Contains};
 ghost use Rattle.std.specs.List.{AllByRecursion};
 ghost use Rattle.bb_base.specs.Variables.{Bit};
-ghost use Rattle.bb_netlist.specs.Net.{Gate, renamed_gate};
-ghost use Rattle.bb_netlist.specs.Run.{MeetsBy, by_op};
-ghost use Rattle.bb_netlist.specs.Order.{IsOrder};
-ghost use Rattle.bb_segment.specs.Paths.{is_free, Start, AtNet, Behind, IsPathBack, IsLeaf, LiesIn, renamed_start};
-ghost use Rattle.bb_segment.specs.Support.{AreLeaves};
-ghost use Rattle.bb_segment.specs.Function.{IsBitOf, StandsIn, end_of};
-ghost use Rattle.bb_segment.specs.Change.{Change, IsChangeOf, gives_by};
-ghost use Rattle.bb_segment.specs.Cuts.{AreCuts, is_stop_with};
+ghost use Rattle.bb_base.specs.Net.{Gate, renamed_gate};
+ghost use Rattle.bb_base.specs.Run.{MeetsBy, by_op};
+ghost use Rattle.bb_base.specs.Order.{IsOrder};
+ghost use Rattle.bb_terms.specs.Paths.{is_free, Start, AtNet, Behind, IsPathBack, IsLeaf, LiesIn, renamed_start};
+ghost use Rattle.bb_terms.specs.Support.{AreLeaves};
+ghost use Rattle.bb_terms.specs.Function.{IsBitOf, StandsIn, end_of};
+ghost use Rattle.bb_terms.specs.Change.{Change, IsChangeOf, gives_by};
+ghost use Rattle.bb_terms.specs.Cuts.{AreCuts, is_stop_with};
 
 /// What a valuation gives an observed net is the bit of the line's function, where the leaves have their bits of it.
 pub fn lines_compute()

@@ -6,12 +6,11 @@
 //!   function gives one bit and no other where gates have an order.
 //! - A netlist has one choice of cuts, and with them no gate's support has more nets than the width. `bb_cone` finds them.
 //!
-//! `specs/Paths.antt` says where a walk leads, `specs/Support.antt` what a support is, `specs/Function.antt` what a line's function
-//! gives, `specs/Change.antt` what a changed gate is, and `specs/Cuts.antt` what is cut.
+//! `bb_terms` has the definitions: `specs/Paths.antt` says where a walk leads, `specs/Support.antt` what a support is,
+//! `specs/Function.antt` what a line's function gives, `specs/Change.antt` what a changed gate is, and `specs/Cuts.antt` what is cut.
 #![tactic(auto)]
 
 mod laws;
-mod start;
 mod supports;
 mod walk;
 
@@ -19,6 +18,5 @@ pub use laws::{
     changes_elsewhere, leaves_by_steps, lines_compute, one_bit, one_choice, one_support,
     paths_join, short_supports, some_bit,
 };
-pub use start::Start;
 pub use supports::{Wide, is_stop, support};
 pub use walk::Walk;

@@ -3,15 +3,17 @@
 ghost use Rattle.std.specs.Prelude.{◌≡◌, ◌≢◌, ◌<◌, ◌≤◌, ◌^◌, ℕ, List, length, Contains, AllPairs, IfOk, IfErr, count_by, filter};
 ghost use Rattle.std.specs.List.Sorted.{IsPermutation, IsSorted};
 ghost use Rattle.std.specs.Ordering.{nat_cmp};
-ghost use Rattle.bb_netlist.specs.Net.{driven};
-ghost use Rattle.bb_segment.specs.Support.{stop_at, HasLeaves, StartExists};
+ghost use Rattle.bb_base.specs.Net.{driven};
+ghost use Rattle.bb_terms.specs.Support.{stop_at, HasLeaves, StartExists};
 ghost use Rattle.bb_segment.specs.Among.{AreStops};
 ghost use Rattle.bb_segment.specs.Walks.{IsClear};
 
+use crate::Walk;
 use crate::walk::{clear, fill};
-use crate::{Start, Walk};
 use arrayvec::ArrayVec;
-use bb_netlist::{NetId, Netlist, Order};
+use bb_base::{NetId, Netlist};
+use bb_netlist::Order;
+use bb_terms::Start;
 
 /// More than 16 leaves: how many there are.
 #[derive(Clone, Copy, Debug, PartialEq, Eq)]

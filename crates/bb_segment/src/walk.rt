@@ -1,14 +1,14 @@
 //! A walk back through gates, net by net, over buffers that are taken once.
 
 ghost use Rattle.std.specs.Prelude.{◌≡◌, ◌<◌, ◌≤◌, ◌^◌, ℕ, true, false, [], ◌∷◌, length, take, Contains, IfOk, slice_get, Some};
-ghost use Rattle.bb_netlist.specs.Net.{driven};
-ghost use Rattle.bb_netlist.specs.Order.{Reads};
-ghost use Rattle.bb_segment.specs.Paths.{Start as PlainStart, starts, IsReached};
-ghost use Rattle.bb_segment.specs.Support.{stop_at, start_in, StartExists};
+ghost use Rattle.bb_base.specs.Net.{driven};
+ghost use Rattle.bb_base.specs.Order.{Reads};
+ghost use Rattle.bb_terms.specs.Paths.{Start as PlainStart, starts, IsReached};
+ghost use Rattle.bb_terms.specs.Support.{stop_at, start_in, StartExists};
 ghost use Rattle.bb_segment.specs.Walks.{is_marked_net, IsClear, IsMet, HasMore};
 
-use crate::Start;
-use bb_netlist::{Driver, NetId, Netlist};
+use bb_base::{Driver, NetId, Netlist};
+use bb_terms::Start;
 use std::alloc::{AllocError, Global};
 use std::marker::Model;
 

@@ -3,24 +3,24 @@ use Rattle.std.proofs.Common.{◌≡◌, ◌↔◌, ◌⊎◌, inl, inr, ℕ, �
 use Rattle.std.proofs.lemmas.List.Elements.{Contains-append_cases}
 use Rattle.std.specs.List.{AllByRecursion}
 use Rattle.bb_base.proofs.Contained.{here, either, none_in, of_all, to_all, contains_map, contains_at, place_of}
-use Rattle.bb_netlist.specs.Net.{Gate, Netlist, driven, IsNetlist}
-use Rattle.bb_netlist.specs.Order.{Reads}
-use Rattle.bb_segment.specs.Paths.{Start, AtNet, Behind, starts, is_free, IsPathBack, IsReached, IsLeaf, LiesBehind, LiesIn}
-use Rattle.bb_segment.specs.Change.{Change}
-use Rattle.bb_segment.proofs.PathLemmas.{reached_here}
-use Rattle.bb_segment.proofs.FunctionLemmas.{driver_of}
-use Rattle.bb_rules.specs.declared.kind.Kind.{Kind}
-use Rattle.bb_rules.specs.declared.kind.Kind.TheVariants.{Input, State, Split, Cut, Watch, Output}
-use Rattle.bb_rules.specs.declared.plan.Cell.{Cell}
-use Rattle.bb_rules.specs.Kinds.{is_source, is_behind, is_flop}
-use Rattle.bb_rules.specs.Plan.{PlanValue, chain}
-use Rattle.bb_rules.specs.Lines.{is_stop, d_of, StartsBehind, IsStartOf, IsStart}
-use Rattle.bb_rules.specs.Rules.{Kinds, Served, Holds, Fits, IsQ, MayStand}
-use Rattle.bb_rules.proofs.NetLemmas.{input_within, d_is, d_within, driven_net, one_gate}
-use Rattle.bb_rules.proofs.StopLemmas.{source_at, source_stops, free_stops, flop_free}
-use Rattle.bb_ctl.specs.declared.wire.Wire.{Wire}
-use Rattle.bb_ctl.specs.declared.wire.Wire.TheVariants.{Kept, Read}
-use Rattle.bb_ctl.specs.Reads.{read, line, line_by}
+use Rattle.bb_base.specs.Net.{Gate, Netlist, driven, IsNetlist}
+use Rattle.bb_base.specs.Order.{Reads}
+use Rattle.bb_terms.specs.Paths.{Start, AtNet, Behind, starts, is_free, IsPathBack, IsReached, IsLeaf, LiesBehind, LiesIn}
+use Rattle.bb_terms.specs.Change.{Change}
+use Rattle.bb_terms.proofs.PathLemmas.{reached_here}
+use Rattle.bb_terms.proofs.FunctionLemmas.{driver_of}
+use Rattle.bb_terms.specs.declared.kind.Kind.{Kind}
+use Rattle.bb_terms.specs.declared.kind.Kind.TheVariants.{Input, State, Split, Cut, Watch, Output}
+use Rattle.bb_terms.specs.declared.plan.Cell.{Cell}
+use Rattle.bb_terms.specs.Kinds.{is_source, is_behind, is_flop}
+use Rattle.bb_terms.specs.Plan.{PlanValue, chain}
+use Rattle.bb_terms.specs.Lines.{is_stop, d_of, StartsBehind, IsStartOf, IsStart}
+use Rattle.bb_terms.specs.Rules.{Kinds, Served, Holds, Fits, IsQ, MayStand}
+use Rattle.bb_terms.proofs.NetLemmas.{input_within, d_is, d_within, driven_net, one_gate}
+use Rattle.bb_terms.proofs.StopLemmas.{source_at, source_stops, free_stops, flop_free}
+use Rattle.bb_terms.specs.declared.wire.Wire.{Wire}
+use Rattle.bb_terms.specs.declared.wire.Wire.TheVariants.{Kept, Read}
+use Rattle.bb_terms.specs.Reads.{read, line, line_by}
 use Rattle.bb_written.specs.Written.{test_gates, written_gate, written_netlist}
 use Rattle.bb_testrun.specs.Traced.{on_wires}
 use Rattle.bb_testrun.proofs.TracedRuns.{added_same}

@@ -2,25 +2,25 @@
 use Rattle.std.proofs.Common.{◌≡◌, ◌↔◌, ◌⊎◌, inl, inr, ℕ, ◌<◌, ◌≤◌, ◌||◌, List, [], ◌∷◌, ◌++◌, length, map, filter, cond, Bool, true, false, refl, sym, ap, subst, ◌∙◌, Contains, slice_get, Some}
 use Rattle.std.specs.List.{list_any}
 use Rattle.bb_base.proofs.Contained.{here, there, either, none_in, contains_map, contains_at, place_of}
-use Rattle.bb_netlist.specs.Net.{Gate, Netlist, driven, reads, renamed_gate}
-use Rattle.bb_net.specs.Named.{Named, IsNamed}
+use Rattle.bb_base.specs.Net.{Gate, Netlist, driven, reads, renamed_gate}
+use Rattle.bb_base.specs.Named.{Named, IsNamed}
 use Rattle.bb_net.specs.Sites.{Site, sited}
 use Rattle.bb_net.proofs.SiteLemmas.{site_decides}
-use Rattle.bb_segment.specs.Paths.{Start, AtNet, IsReached, IsLeaf, LiesBehind, LiesIn}
-use Rattle.bb_rules.specs.declared.kind.Kind.{Kind}
-use Rattle.bb_rules.specs.declared.kind.Kind.TheVariants.{Input, State, Split, Cut, Watch, Output}
-use Rattle.bb_rules.specs.declared.plan.Cell.{Cell}
-use Rattle.bb_rules.specs.Kinds.{is_source, has_line}
-use Rattle.bb_rules.specs.Plan.{PlanValue, chain}
-use Rattle.bb_rules.specs.Lines.{is_stop, IsStart, IsStartOf}
-use Rattle.bb_rules.specs.Rules.{Kinds, Served, Widths, IsGateNet, IsQ, MayStand, AreLeavesOf}
-use Rattle.bb_rules.specs.Valid.{IsValidPlan}
+use Rattle.bb_terms.specs.Paths.{Start, AtNet, IsReached, IsLeaf, LiesBehind, LiesIn}
+use Rattle.bb_terms.specs.declared.kind.Kind.{Kind}
+use Rattle.bb_terms.specs.declared.kind.Kind.TheVariants.{Input, State, Split, Cut, Watch, Output}
+use Rattle.bb_terms.specs.declared.plan.Cell.{Cell}
+use Rattle.bb_terms.specs.Kinds.{is_source, has_line}
+use Rattle.bb_terms.specs.Plan.{PlanValue, chain}
+use Rattle.bb_terms.specs.Lines.{is_stop, IsStart, IsStartOf}
+use Rattle.bb_terms.specs.Rules.{Kinds, Served, Widths, IsGateNet, IsQ, MayStand, AreLeavesOf}
+use Rattle.bb_terms.specs.Valid.{IsValidPlan}
 use Rattle.bb_rules.proofs.CellLemmas.{cell_at}
 use Rattle.bb_rules.proofs.SourceLemmas.{in_register}
 use Rattle.bb_rules.proofs.CoverLemmas.{all_covered}
-use Rattle.bb_rules.proofs.NetLemmas.{input_net_within, out_within, q_within}
-use Rattle.bb_ctl.specs.declared.wire.Wire.{Wire}
-use Rattle.bb_ctl.specs.Reads.{read, line}
+use Rattle.bb_terms.proofs.NetLemmas.{input_net_within, out_within, q_within}
+use Rattle.bb_terms.specs.declared.wire.Wire.{Wire}
+use Rattle.bb_terms.specs.Reads.{read, line}
 use Rattle.bb_written.specs.Written.{wire_site, written_gate, written_netlist, written}
 use Rattle.bb_normal.specs.Mirrors.{Mirrors}
 use Rattle.bb_ctl.specs.OwnNames.{HasOwnNames}

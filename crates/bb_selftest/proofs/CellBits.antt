@@ -4,17 +4,17 @@ use Rattle.std.proofs.lemmas.Bool.Decides.{nat_tests}
 use Rattle.std.proofs.lemmas.List.{length-append}
 use Rattle.std.specs.List.{flat_map}
 use Rattle.bb_base.specs.Booleans.{parity_of_bits}
-use Rattle.bb_netlist.specs.Net.{Netlist}
-use Rattle.bb_gf2.specs.Bits.{picked}
-use Rattle.bb_gf2.specs.Parity.{code_of_bits}
-use Rattle.bb_creg.specs.OnBits.{zeros, bits_after}
-use Rattle.bb_rules.specs.declared.plan.Cell.{Cell}
-use Rattle.bb_rules.specs.Kinds.{is_source}
-use Rattle.bb_rules.specs.Plan.{RegisterValue, PlanValue, chain, compacts, IsCell}
+use Rattle.bb_base.specs.Net.{Netlist}
+use Rattle.bb_base.specs.Bits.{picked}
+use Rattle.bb_base.specs.Parity.{code_of_bits}
+use Rattle.bb_terms.specs.OnBits.{zeros, bits_after}
+use Rattle.bb_terms.specs.declared.plan.Cell.{Cell}
+use Rattle.bb_terms.specs.Kinds.{is_source}
+use Rattle.bb_terms.specs.Plan.{RegisterValue, PlanValue, chain, compacts, IsCell}
 use Rattle.bb_rules.proofs.CellLemmas.{cell_at}
-use Rattle.bb_ctl.specs.Reads.{q_of, qs_from}
-use Rattle.bb_ctl.specs.declared.wire.Wire.{Wire}
-use Rattle.bb_ctl.specs.declared.wire.Wire.TheVariants.{So, Done}
+use Rattle.bb_terms.specs.Reads.{q_of, qs_from}
+use Rattle.bb_terms.specs.declared.wire.Wire.{Wire}
+use Rattle.bb_terms.specs.declared.wire.Wire.TheVariants.{So, Done}
 use Rattle.bb_written.specs.Modes.{EachRegister}
 use Rattle.bb_written.specs.Trace.{IsTestTrace}
 use Rattle.bb_testrun.specs.Control.{ReturnsAfter}

@@ -1,10 +1,10 @@
 -- The laws on changed machines, one clause each.
 use Rattle.std.proofs.Common.{Bool, List, arith}
-use Rattle.bb_net.specs.Named.{Named}
+use Rattle.bb_base.specs.Named.{Named}
 use Rattle.bb_net.specs.Sites.{Site, sited}
-use Rattle.bb_segment.specs.Change.{Change, IsChangeOf, gives_by}
-use Rattle.bb_rules.specs.Plan.{PlanValue}
-use Rattle.bb_rules.specs.Rules.{Conflicts}
+use Rattle.bb_terms.specs.Change.{Change, IsChangeOf, gives_by}
+use Rattle.bb_terms.specs.Plan.{PlanValue}
+use Rattle.bb_terms.specs.Rules.{Conflicts}
 use Rattle.bb_selftest.specs.TestRun.{IsTestRunBy}
 use Rattle.bb_selftest.specs.TestTrace.{IsWrittenNetlist, IsTracedTest}
 use Rattle.bb_selftest.specs.Roles.{KeepsRoles}

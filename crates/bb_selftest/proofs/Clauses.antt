@@ -3,24 +3,24 @@ use Rattle.std.proofs.Common.{◌≡◌, ◌⊎◌, inl, inr, ℕ, suc, ◌+◌,
 use Rattle.std.specs.List.{flat_map}
 use Rattle.bb_base.proofs.Contained.{map_on, place_of}
 use Rattle.bb_base.proofs.Lists.{map_twice}
-use Rattle.bb_netlist.specs.Net.{Gate, IsNetlist}
-use Rattle.bb_netlist.specs.Run.{at}
-use Rattle.bb_net.specs.Named.{Named}
+use Rattle.bb_base.specs.Net.{Gate, IsNetlist}
+use Rattle.bb_base.specs.Run.{at}
+use Rattle.bb_base.specs.Named.{Named}
 use Rattle.bb_net.specs.Sites.{Site}
-use Rattle.bb_gf2.specs.Parity.{code_bit}
-use Rattle.bb_creg.specs.Register.{state_after}
-use Rattle.bb_creg.specs.Signature.{signature}
-use Rattle.bb_segment.specs.Paths.{Start}
-use Rattle.bb_segment.specs.Function.{IsBitOf}
-use Rattle.bb_rules.specs.declared.plan.Cell.{Cell}
-use Rattle.bb_rules.specs.Kinds.{is_source, has_line}
-use Rattle.bb_rules.specs.Plan.{RegisterValue, PlanValue, chain, compacts, IsCell}
-use Rattle.bb_rules.specs.Lines.{is_stop, IsStart, IsLeafOf, column_of}
-use Rattle.bb_rules.specs.Rules.{Sessions}
-use Rattle.bb_rules.specs.Signatures.{code_at}
-use Rattle.bb_rules.specs.Valid.{IsValidPlan}
+use Rattle.bb_base.specs.Parity.{code_bit}
+use Rattle.bb_terms.specs.Register.{state_after}
+use Rattle.bb_terms.specs.Signature.{signature}
+use Rattle.bb_terms.specs.Paths.{Start}
+use Rattle.bb_terms.specs.Function.{IsBitOf}
+use Rattle.bb_terms.specs.declared.plan.Cell.{Cell}
+use Rattle.bb_terms.specs.Kinds.{is_source, has_line}
+use Rattle.bb_terms.specs.Plan.{RegisterValue, PlanValue, chain, compacts, IsCell}
+use Rattle.bb_terms.specs.Lines.{is_stop, IsStart, IsLeafOf, column_of}
+use Rattle.bb_terms.specs.Rules.{Sessions}
+use Rattle.bb_terms.specs.Signatures.{code_at}
+use Rattle.bb_terms.specs.Valid.{IsValidPlan}
 use Rattle.bb_rules.proofs.SessionLemmas.{observes}
-use Rattle.bb_ctl.specs.Reads.{qs_from}
+use Rattle.bb_terms.specs.Reads.{qs_from}
 use Rattle.bb_written.specs.Written.{wire_site}
 use Rattle.bb_normal.specs.Normal.{site_so, site_done}
 use Rattle.bb_testrun.specs.Held.{line_bits}

@@ -1,21 +1,21 @@
 -- Each vector of a line's leaves comes, and so does what shows a change.
 use Rattle.std.proofs.Common.{◌≡◌, ◌<◌, ◌^◌, ◌∙◌, ℕ, Bool, true, List, length, sym, ap}
-use Rattle.bb_netlist.specs.Run.{at}
-use Rattle.bb_net.specs.Named.{Named}
+use Rattle.bb_base.specs.Run.{at}
+use Rattle.bb_base.specs.Named.{Named}
 use Rattle.bb_net.specs.Sites.{Site, sited}
-use Rattle.bb_creg.specs.Register.{state_after}
-use Rattle.bb_segment.specs.Paths.{Start}
-use Rattle.bb_segment.specs.Function.{IsBitOf}
-use Rattle.bb_segment.specs.Change.{Change, IsChangeOf, gives_by}
-use Rattle.bb_segment.proofs.FunctionLemmas.{one_bit}
-use Rattle.bb_rules.specs.declared.plan.Cell.{Cell}
-use Rattle.bb_rules.specs.Plan.{PlanValue, compacts}
-use Rattle.bb_rules.specs.Lines.{is_stop, IsStart, IsLeafOf}
-use Rattle.bb_rules.specs.Rules.{Columns, Codes, Period}
-use Rattle.bb_rules.specs.Signatures.{code_at}
+use Rattle.bb_terms.specs.Register.{state_after}
+use Rattle.bb_terms.specs.Paths.{Start}
+use Rattle.bb_terms.specs.Function.{IsBitOf}
+use Rattle.bb_terms.specs.Change.{Change, IsChangeOf, gives_by}
+use Rattle.bb_terms.proofs.FunctionLemmas.{one_bit}
+use Rattle.bb_terms.specs.declared.plan.Cell.{Cell}
+use Rattle.bb_terms.specs.Plan.{PlanValue, compacts}
+use Rattle.bb_terms.specs.Lines.{is_stop, IsStart, IsLeafOf}
+use Rattle.bb_terms.specs.Rules.{Columns, Codes, Period}
+use Rattle.bb_terms.specs.Signatures.{code_at}
 use Rattle.bb_rules.proofs.CellLemmas.{cell_at}
 use Rattle.bb_rules.proofs.CodeLemmas.{vectors_come}
-use Rattle.bb_rules.proofs.StopLemmas.{free_stops}
+use Rattle.bb_terms.proofs.StopLemmas.{free_stops}
 use Rattle.bb_selftest.specs.WrittenLines.{IsObserver, read_site, line_site, sited_gate}
 use Rattle.bb_selftest.specs.Bounded.{IsBoundedLine}
 use Rattle.bb_selftest.specs.TestRun.{IsTestRunBy, run_cycle}

@@ -3,13 +3,13 @@ use Rattle.std.proofs.Common.{◌≡◌, ◌∙◌, ◌+◌, ◌++◌, ℕ, suc,
 use Rattle.std.proofs.lemmas.List.{length-append}
 use Rattle.std.specs.List.{AllByRecursion}
 use Rattle.bb_base.proofs.Lists.{length_map, all_map_back}
-use Rattle.bb_netlist.specs.Net.{Gate, Netlist}
-use Rattle.bb_netlist.specs.Order.{HasOrder}
-use Rattle.bb_netlist.specs.Run.{IsRunBy, next_states}
-use Rattle.bb_net.specs.Named.{Named}
+use Rattle.bb_base.specs.Net.{Gate, Netlist}
+use Rattle.bb_base.specs.Order.{HasOrder}
+use Rattle.bb_base.specs.Run.{IsRunBy, next_states}
+use Rattle.bb_base.specs.Named.{Named}
 use Rattle.bb_net.specs.Sites.{Site, site_of, sited}
 use Rattle.bb_runs.proofs.NamedRuns.{site_run}
-use Rattle.bb_rules.specs.Plan.{PlanValue}
+use Rattle.bb_terms.specs.Plan.{PlanValue}
 use Rattle.bb_written.proofs.Forward.{forward}
 use Rattle.bb_written.proofs.Ranked.{no_loop}
 use Rattle.bb_normal.specs.Normal.{site_test, site_init}

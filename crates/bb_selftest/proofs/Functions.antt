@@ -3,21 +3,21 @@ use Rattle.std.proofs.Common.{◌≡◌, ◌↔◌, ◌⊎◌, inl, inr, ℕ, ze
 use Rattle.std.specs.List.{range_with_len}
 use Rattle.bb_base.proofs.Contained.{here, there, either, none_in, of_all, map_on}
 use Rattle.bb_base.proofs.Lists.{map_twice}
-use Rattle.bb_netlist.specs.Net.{Gate, Netlist, driven, IsNetlist}
-use Rattle.bb_net.specs.Named.{Named, IsNamed}
+use Rattle.bb_base.specs.Net.{Gate, Netlist, driven, IsNetlist}
+use Rattle.bb_base.specs.Named.{Named, IsNamed}
 use Rattle.bb_net.specs.Sites.{Site, sited}
 use Rattle.bb_net.proofs.SiteLemmas.{site_decides}
-use Rattle.bb_segment.specs.Paths.{Start, AtNet, Behind, starts, IsPathBack, IsReached, LiesBehind, LiesIn}
-use Rattle.bb_segment.specs.Function.{line_bit, IsBitOf}
-use Rattle.bb_segment.proofs.PathLemmas.{reached_here, reached_more}
-use Rattle.bb_rules.specs.declared.plan.Cell.{Cell}
-use Rattle.bb_rules.specs.Plan.{PlanValue, chain}
-use Rattle.bb_rules.specs.Lines.{is_stop, IsStart}
-use Rattle.bb_rules.specs.Rules.{Kinds, Served, net_numbers}
-use Rattle.bb_rules.specs.Valid.{IsValidPlan}
-use Rattle.bb_rules.proofs.NetLemmas.{input_within, out_within}
-use Rattle.bb_ctl.specs.declared.wire.Wire.TheVariants.{Kept}
-use Rattle.bb_ctl.specs.Reads.{read}
+use Rattle.bb_terms.specs.Paths.{Start, AtNet, Behind, starts, IsPathBack, IsReached, LiesBehind, LiesIn}
+use Rattle.bb_terms.specs.Function.{line_bit, IsBitOf}
+use Rattle.bb_terms.proofs.PathLemmas.{reached_here, reached_more}
+use Rattle.bb_terms.specs.declared.plan.Cell.{Cell}
+use Rattle.bb_terms.specs.Plan.{PlanValue, chain}
+use Rattle.bb_terms.specs.Lines.{is_stop, IsStart}
+use Rattle.bb_terms.specs.Rules.{Kinds, Served, net_numbers}
+use Rattle.bb_terms.specs.Valid.{IsValidPlan}
+use Rattle.bb_terms.proofs.NetLemmas.{input_within, out_within}
+use Rattle.bb_terms.specs.declared.wire.Wire.TheVariants.{Kept}
+use Rattle.bb_terms.specs.Reads.{read}
 use Rattle.bb_written.specs.Written.{wire_site, written_gate, written_netlist, written}
 use Rattle.bb_normal.specs.Mirrors.{Mirrors}
 use Rattle.bb_ctl.specs.OwnNames.{HasOwnNames}

@@ -3,26 +3,26 @@ use Rattle.std.proofs.Common.{◌≡◌, ◌⊎◌, inl, inr, ℕ, zero, suc, �
 use Rattle.std.proofs.lemmas.Bool.Decides.{nat_tests}
 use Rattle.std.specs.List.{list_any, list_all}
 use Rattle.bb_base.proofs.Contained.{either, none_in, place_of}
-use Rattle.bb_netlist.specs.Net.{Netlist, IsNetlist}
-use Rattle.bb_gf2.specs.Parity.{code_bit, code_of_bits}
+use Rattle.bb_base.specs.Net.{Netlist, IsNetlist}
+use Rattle.bb_base.specs.Parity.{code_bit, code_of_bits}
 use Rattle.bb_gf2.proofs.BitLaws.{code_of_bits-bits}
-use Rattle.bb_creg.specs.Register.{state_after}
-use Rattle.bb_creg.specs.OnBits.{bits_after}
+use Rattle.bb_terms.specs.Register.{state_after}
+use Rattle.bb_terms.specs.OnBits.{bits_after}
 use Rattle.bb_creg.proofs.BitSteps.{bits-state}
 use Rattle.bb_creg.proofs.Orbit.{state_below}
-use Rattle.bb_rules.specs.declared.kind.Kind.{Kind}
-use Rattle.bb_rules.specs.declared.kind.Kind.TheVariants.{Input, State, Split, Cut, Watch, Output}
-use Rattle.bb_rules.specs.declared.plan.Cell.{Cell}
-use Rattle.bb_rules.specs.Kinds.{is_source, is_observer, is_behind, has_line, only_generates}
-use Rattle.bb_rules.specs.Plan.{PlanValue, chain, compacts, lists_register, has_input, IsCell}
-use Rattle.bb_rules.specs.Lines.{IsLeafOf, column_of, source_of}
-use Rattle.bb_rules.specs.Rules.{Frame, Kinds, Apart, Served, Pure, Sessions, Compacted, Room, Conflicts, Period, IsFrame}
-use Rattle.bb_rules.specs.Sources.{IsSourceAt, IsGenerated}
-use Rattle.bb_rules.specs.Valid.{IsValidPlan}
+use Rattle.bb_terms.specs.declared.kind.Kind.{Kind}
+use Rattle.bb_terms.specs.declared.kind.Kind.TheVariants.{Input, State, Split, Cut, Watch, Output}
+use Rattle.bb_terms.specs.declared.plan.Cell.{Cell}
+use Rattle.bb_terms.specs.Kinds.{is_source, is_observer, is_behind, has_line, only_generates}
+use Rattle.bb_terms.specs.Plan.{PlanValue, chain, compacts, lists_register, has_input, IsCell}
+use Rattle.bb_terms.specs.Lines.{IsLeafOf, column_of, source_of}
+use Rattle.bb_terms.specs.Rules.{Frame, Kinds, Apart, Served, Pure, Sessions, Compacted, Room, Conflicts, Period, IsFrame}
+use Rattle.bb_terms.specs.Sources.{IsSourceAt, IsGenerated}
+use Rattle.bb_terms.specs.Valid.{IsValidPlan}
 use Rattle.bb_rules.proofs.CellLemmas.{cell_at, column_is}
 use Rattle.bb_rules.proofs.SessionLemmas.{generated}
 use Rattle.bb_rules.proofs.SourceLemmas.{source_is, one_source}
-use Rattle.bb_rules.proofs.StopLemmas.{source_stops}
+use Rattle.bb_terms.proofs.StopLemmas.{source_stops}
 use Rattle.bb_testrun.specs.Control.{ReturnsAfter}
 use Rattle.bb_testrun.specs.Computes.{ReadsAtStops}
 use Rattle.bb_testrun.specs.Reading.{Generates}

@@ -1,11 +1,11 @@
 -- All clauses together.
 use Rattle.std.proofs.Common.{List, ℕ}
-use Rattle.bb_net.specs.Named.{Named}
+use Rattle.bb_base.specs.Named.{Named}
 use Rattle.bb_net.specs.Sites.{Site, sited}
-use Rattle.bb_segment.specs.Change.{Change, IsChangeOf, gives_by}
-use Rattle.bb_rules.specs.declared.plan.Cell.{Cell}
-use Rattle.bb_rules.specs.Plan.{PlanValue}
-use Rattle.bb_rules.specs.Signatures.{AreSignatures}
+use Rattle.bb_terms.specs.Change.{Change, IsChangeOf, gives_by}
+use Rattle.bb_terms.specs.declared.plan.Cell.{Cell}
+use Rattle.bb_terms.specs.Plan.{PlanValue}
+use Rattle.bb_terms.specs.Signatures.{AreSignatures}
 use Rattle.bb_written.proofs.Forward.{forward}
 use Rattle.bb_written.proofs.Ranked.{no_loop}
 use Rattle.bb_normal.proofs.Whole.{normal}

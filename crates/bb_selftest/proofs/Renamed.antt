@@ -2,8 +2,8 @@
 use Rattle.std.proofs.Common.{◌≡◌, ◌↔◌, List, [], ◌∷◌, map, Bool, false, refl, sym, ap, subst, ◌∙◌, Contains}
 use Rattle.std.specs.List.{AllByRecursion}
 use Rattle.bb_base.proofs.Contained.{contains_map}
-use Rattle.bb_netlist.specs.Net.{Gate, renamed_gate}
-use Rattle.bb_segment.specs.Paths.{Start, AtNet, Behind, starts, renamed_start, IsPathBack, IsReached, IsLeaf, LiesBehind}
+use Rattle.bb_base.specs.Net.{Gate, renamed_gate}
+use Rattle.bb_terms.specs.Paths.{Start, AtNet, Behind, starts, renamed_start, IsPathBack, IsReached, IsLeaf, LiesBehind}
 use Rattle.bb_selftest.specs.Renaming.{IsRenaming}
 use Rattle.bb_selftest.proofs.Steps.{StepsAgree, IsImage, IsReachedImage, of_map, path_forth, path_back, first_reached, other_reached, leaves_agree, other_passes, first_passes}
 

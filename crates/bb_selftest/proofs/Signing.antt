@@ -6,27 +6,27 @@ use Rattle.std.proofs.lemmas.Option.{slice_get-get_or, slice_get_within}
 use Rattle.std.specs.List.{AllZip, flat_map, range_with_len}
 use Rattle.bb_base.proofs.Contained.{either, none_in, map_on, place_of, contains_at}
 use Rattle.bb_base.proofs.Lists.{length_map, map_twice, get_some}
-use Rattle.bb_netlist.specs.Net.{Gate}
-use Rattle.bb_netlist.specs.Run.{at, by_op}
-use Rattle.bb_net.specs.Named.{Named}
+use Rattle.bb_base.specs.Net.{Gate}
+use Rattle.bb_base.specs.Run.{at, by_op}
+use Rattle.bb_base.specs.Named.{Named}
 use Rattle.bb_net.specs.Sites.{Site, sited}
-use Rattle.bb_gf2.specs.Bits.{bits, from_bits}
+use Rattle.bb_base.specs.Bits.{bits, from_bits}
 use Rattle.bb_gf2.proofs.BitLaws.{bits-from_bits}
-use Rattle.bb_creg.specs.Register.{state_after}
-use Rattle.bb_creg.specs.Signature.{signature}
-use Rattle.bb_segment.specs.Paths.{Start, IsLeaf}
-use Rattle.bb_segment.specs.Function.{IsBitOf}
-use Rattle.bb_segment.specs.Change.{Change, IsChangeOf}
-use Rattle.bb_segment.proofs.FunctionLemmas.{one_bit}
-use Rattle.bb_rules.specs.declared.plan.Cell.{Cell}
-use Rattle.bb_rules.specs.Plan.{RegisterValue, PlanValue, chain, compacts, lists_register, IsCell}
-use Rattle.bb_rules.specs.Lines.{is_stop}
-use Rattle.bb_rules.specs.Rules.{Sessions}
-use Rattle.bb_rules.specs.Signatures.{code_at, IsLineBit, HasSignature, IsSigned, AreSignatures}
+use Rattle.bb_terms.specs.Register.{state_after}
+use Rattle.bb_terms.specs.Signature.{signature}
+use Rattle.bb_terms.specs.Paths.{Start, IsLeaf}
+use Rattle.bb_terms.specs.Function.{IsBitOf}
+use Rattle.bb_terms.specs.Change.{Change, IsChangeOf}
+use Rattle.bb_terms.proofs.FunctionLemmas.{one_bit}
+use Rattle.bb_terms.specs.declared.plan.Cell.{Cell}
+use Rattle.bb_terms.specs.Plan.{RegisterValue, PlanValue, chain, compacts, lists_register, IsCell}
+use Rattle.bb_terms.specs.Lines.{is_stop}
+use Rattle.bb_terms.specs.Rules.{Sessions}
+use Rattle.bb_terms.specs.Signatures.{code_at, IsLineBit, HasSignature, IsSigned, AreSignatures}
 use Rattle.bb_rules.proofs.SessionLemmas.{observes}
 use Rattle.bb_rules.proofs.SourceLemmas.{in_register}
-use Rattle.bb_rules.proofs.StopLemmas.{free_stops}
-use Rattle.bb_ctl.specs.Reads.{qs_from}
+use Rattle.bb_terms.proofs.StopLemmas.{free_stops}
+use Rattle.bb_terms.specs.Reads.{qs_from}
 use Rattle.bb_ctl.proofs.ChainLemmas.{qs_long}
 use Rattle.bb_written.specs.Written.{wire_site}
 use Rattle.bb_testrun.specs.SignatureSoFar.{lines_until}

@@ -6,23 +6,23 @@ use Rattle.std.specs.List.{flat_map}
 use Rattle.bb_base.proofs.Contained.{here, there, either, none_in, contains_map, contains_at, place_of}
 use Rattle.bb_base.proofs.Lists.{get_front, get_back}
 use Rattle.bb_base.specs.declared.operator.Op.TheVariants.{And, Or, Xor}
-use Rattle.bb_netlist.specs.Net.{Gate, Flop, Netlist, driven, reads, IsNetlist}
-use Rattle.bb_segment.specs.Paths.{is_free}
-use Rattle.bb_segment.proofs.FunctionLemmas.{driver_of}
-use Rattle.bb_gf2.specs.Bits.{picked}
-use Rattle.bb_rules.specs.declared.kind.Kind.{Kind}
-use Rattle.bb_rules.specs.declared.kind.Kind.TheVariants.{Input, State, Split, Cut, Watch, Output}
-use Rattle.bb_rules.specs.declared.plan.Cell.{Cell}
-use Rattle.bb_rules.specs.Kinds.{is_source, is_flop, is_behind, has_line}
-use Rattle.bb_rules.specs.Plan.{RegisterValue, PlanValue, chain}
-use Rattle.bb_rules.specs.Rules.{Served, Holds, IsInput, IsQ}
-use Rattle.bb_rules.proofs.ServedLemmas.{input_or_q}
-use Rattle.bb_rules.proofs.StopLemmas.{gives_q}
-use Rattle.bb_ctl.specs.declared.wire.Wire.{Wire}
-use Rattle.bb_ctl.specs.declared.wire.Wire.TheVariants.{Kept, Test, Init, NotTest, Phase, PhaseNext, First, Latches, Takes, Codes, Line, Chain, Code, Coded, Next, InTest, InNormal, Read, Held}
-use Rattle.bb_ctl.specs.Reads.{q_by, q_of, read, read_behind, line}
-use Rattle.bb_ctl.specs.Controller.{gate_row, word_ahead}
-use Rattle.bb_ctl.specs.Registers.{control_rows}
+use Rattle.bb_base.specs.Net.{Gate, Flop, Netlist, driven, reads, IsNetlist}
+use Rattle.bb_terms.specs.Paths.{is_free}
+use Rattle.bb_terms.proofs.FunctionLemmas.{driver_of}
+use Rattle.bb_base.specs.Bits.{picked}
+use Rattle.bb_terms.specs.declared.kind.Kind.{Kind}
+use Rattle.bb_terms.specs.declared.kind.Kind.TheVariants.{Input, State, Split, Cut, Watch, Output}
+use Rattle.bb_terms.specs.declared.plan.Cell.{Cell}
+use Rattle.bb_terms.specs.Kinds.{is_source, is_flop, is_behind, has_line}
+use Rattle.bb_terms.specs.Plan.{RegisterValue, PlanValue, chain}
+use Rattle.bb_terms.specs.Rules.{Served, Holds, IsInput, IsQ}
+use Rattle.bb_terms.proofs.ServedLemmas.{input_or_q}
+use Rattle.bb_terms.proofs.StopLemmas.{gives_q}
+use Rattle.bb_terms.specs.declared.wire.Wire.{Wire}
+use Rattle.bb_terms.specs.declared.wire.Wire.TheVariants.{Kept, Test, Init, NotTest, Phase, PhaseNext, First, Latches, Takes, Codes, Line, Chain, Code, Coded, Next, InTest, InNormal, Read, Held}
+use Rattle.bb_terms.specs.Reads.{q_by, q_of, read, read_behind, line}
+use Rattle.bb_terms.specs.Controller.{gate_row, word_ahead}
+use Rattle.bb_terms.specs.Registers.{control_rows}
 use Rattle.bb_written.specs.Cells.{when, xor_row, next_terms, cell_rows, rows_of_cells, all_cells_from, flop, word_flops, ring_flops, cell_flops, flops}
 use Rattle.bb_written.specs.Written.{test_gates, written_gate, written_netlist}
 use Rattle.bb_selftest.specs.Segments.{IsNetOf}

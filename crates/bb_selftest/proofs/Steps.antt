@@ -3,9 +3,9 @@ use Rattle.std.proofs.Common.{◌≡◌, ◌↔◌, List, [], ◌∷◌, map, Bo
 use Rattle.std.specs.List.{AllByRecursion}
 use Rattle.bb_base.proofs.Contained.{of_all, contains_map, contains_at, place_of}
 use Rattle.bb_base.proofs.Lists.{get_map}
-use Rattle.bb_netlist.specs.Net.{Gate}
-use Rattle.bb_netlist.specs.Order.{Reads}
-use Rattle.bb_segment.specs.Paths.{Start, starts, IsPathBack, IsReached, IsLeaf, LiesBehind}
+use Rattle.bb_base.specs.Net.{Gate}
+use Rattle.bb_base.specs.Order.{Reads}
+use Rattle.bb_terms.specs.Paths.{Start, starts, IsPathBack, IsReached, IsLeaf, LiesBehind}
 
 -- an item of a map is the image of one
 pub of_map : {X Y : Type 0} (f : X → Y) (xs : List X) (y : Y) → Contains (map f xs) y → (x : X) × Contains xs x × (f x ≡ y)

@@ -5,16 +5,16 @@ use Rattle.std.proofs.lemmas.List.Elements.{Contains-append_left, Contains-appen
 use Rattle.bb_base.proofs.Contained.{of_all, to_all, contains_map}
 use Rattle.bb_base.proofs.Lists.{all_front, all_back, all_map}
 use Rattle.bb_base.specs.Operators.{op_gives}
-use Rattle.bb_netlist.specs.Net.{Gate, Flop, renamed_gate, driven, reads}
-use Rattle.bb_netlist.specs.Run.{at, Meets, MeetsBy, IsTrace}
-use Rattle.bb_net.specs.Named.{Named}
+use Rattle.bb_base.specs.Net.{Gate, Flop, renamed_gate, driven, reads}
+use Rattle.bb_base.specs.Run.{at, Meets, MeetsBy, IsTrace}
+use Rattle.bb_base.specs.Named.{Named}
 use Rattle.bb_net.specs.Sites.{Site, site_of, sited}
 use Rattle.bb_runs.proofs.Traces.{trace_of}
-use Rattle.bb_segment.specs.Change.{Change, IsChangeOf, gives_by, by_table}
-use Rattle.bb_rules.specs.Plan.{PlanValue}
-use Rattle.bb_ctl.specs.declared.wire.Wire.{Wire}
-use Rattle.bb_ctl.specs.declared.wire.Wire.TheVariants.{Kept}
-use Rattle.bb_ctl.specs.Reads.{read}
+use Rattle.bb_terms.specs.Change.{Change, IsChangeOf, gives_by, by_table}
+use Rattle.bb_terms.specs.Plan.{PlanValue}
+use Rattle.bb_terms.specs.declared.wire.Wire.{Wire}
+use Rattle.bb_terms.specs.declared.wire.Wire.TheVariants.{Kept}
+use Rattle.bb_terms.specs.Reads.{read}
 use Rattle.bb_written.specs.Written.{wire_site, written_gate, test_gates, written_netlist}
 use Rattle.bb_normal.proofs.Mirroring.{trace_symbols}
 use Rattle.bb_normal.proofs.Standing.{written_sites_differ}

@@ -1,12 +1,12 @@
 -- Bound: the walk back from a line ends at few reads, which are those of the line's leaves in the original.
 use Rattle.std.specs.Prelude.{◌≡◌, ◌↔◌, ◌⊎◌, ◌≤◌, ℕ, true, List, [], ◌∷◌, map, length, Contains}
-use Rattle.bb_netlist.specs.Net.{Gate}
-use Rattle.bb_net.specs.Named.{Named}
+use Rattle.bb_base.specs.Net.{Gate}
+use Rattle.bb_base.specs.Named.{Named}
 use Rattle.bb_net.specs.Sites.{Site, sited}
-use Rattle.bb_segment.specs.Paths.{IsReached}
-use Rattle.bb_rules.specs.declared.plan.Cell.{Cell}
-use Rattle.bb_rules.specs.Plan.{PlanValue}
-use Rattle.bb_rules.specs.Rules.{AreLeavesOf}
+use Rattle.bb_terms.specs.Paths.{IsReached}
+use Rattle.bb_terms.specs.declared.plan.Cell.{Cell}
+use Rattle.bb_terms.specs.Plan.{PlanValue}
+use Rattle.bb_terms.specs.Rules.{AreLeavesOf}
 use Rattle.bb_selftest.specs.WrittenLines.{read_site, line_site, is_read_site, IsWrittenLeaf}
 
 pub record IsBoundedLine (a b : Named) (p : PlanValue) (c : Cell) : Type 0 where

@@ -1,6 +1,6 @@
 -- The same gates under other names.
 use Rattle.std.specs.Prelude.{◌≡◌, ◌↔◌, Bool, List, map, Contains}
-use Rattle.bb_netlist.specs.Net.{Gate, renamed_gate}
+use Rattle.bb_base.specs.Net.{Gate, renamed_gate}
 
 -- the other gates are these under names that tell the nets apart, and walks stop alike
 pub record IsRenaming {M N : Type 0} (name : M → N) (nets : List M) (gates : List (Gate M)) (stop : M → Bool) (others : List (Gate N)) (stops : N → Bool) : Type 0 where

@@ -1,16 +1,16 @@
 -- Roles: in a session no register that compacts feeds one that does, and those that generate hold their code bits.
 use Rattle.std.specs.Prelude.{◌≡◌, ◌<◌, ◌^◌, ◌&&◌, ℕ, Bool, false, List, length}
 use Rattle.bb_base.specs.Places.{EachAt}
-use Rattle.bb_netlist.specs.Net.{Gate}
-use Rattle.bb_netlist.specs.Run.{at}
-use Rattle.bb_net.specs.Named.{Named}
+use Rattle.bb_base.specs.Net.{Gate}
+use Rattle.bb_base.specs.Run.{at}
+use Rattle.bb_base.specs.Named.{Named}
 use Rattle.bb_net.specs.Sites.{Site}
-use Rattle.bb_gf2.specs.Parity.{code_bit}
-use Rattle.bb_creg.specs.Register.{state_after}
-use Rattle.bb_rules.specs.declared.plan.Cell.{Cell}
-use Rattle.bb_rules.specs.Kinds.{is_source}
-use Rattle.bb_rules.specs.Plan.{PlanValue, compacts, IsCell}
-use Rattle.bb_rules.specs.Rules.{HasNoConflict}
+use Rattle.bb_base.specs.Parity.{code_bit}
+use Rattle.bb_terms.specs.Register.{state_after}
+use Rattle.bb_terms.specs.declared.plan.Cell.{Cell}
+use Rattle.bb_terms.specs.Kinds.{is_source}
+use Rattle.bb_terms.specs.Plan.{PlanValue, compacts, IsCell}
+use Rattle.bb_terms.specs.Rules.{HasNoConflict}
 use Rattle.bb_selftest.specs.WrittenLines.{q_site}
 use Rattle.bb_selftest.specs.TestRun.{IsTestRunBy, run_cycle}
 

@@ -1,13 +1,13 @@
 -- Segments over symbols: the walk back from a line through the written gates, beside the walk in the original.
 use Rattle.std.specs.Prelude.{◌≡◌, ◌↔◌, ◌⊎◌, ℕ, Bool, true, [], ◌∷◌, ◌++◌, Contains}
-use Rattle.bb_netlist.specs.Net.{Gate, Netlist, driven, reads}
-use Rattle.bb_segment.specs.Paths.{Start, AtNet, IsReached, IsLeaf, LiesBehind, LiesIn}
-use Rattle.bb_rules.specs.declared.plan.Cell.{Cell}
-use Rattle.bb_rules.specs.Kinds.{is_source}
-use Rattle.bb_rules.specs.Plan.{PlanValue, chain}
-use Rattle.bb_rules.specs.Lines.{is_stop}
-use Rattle.bb_ctl.specs.declared.wire.Wire.{Wire}
-use Rattle.bb_ctl.specs.Reads.{read, line}
+use Rattle.bb_base.specs.Net.{Gate, Netlist, driven, reads}
+use Rattle.bb_terms.specs.Paths.{Start, AtNet, IsReached, IsLeaf, LiesBehind, LiesIn}
+use Rattle.bb_terms.specs.declared.plan.Cell.{Cell}
+use Rattle.bb_terms.specs.Kinds.{is_source}
+use Rattle.bb_terms.specs.Plan.{PlanValue, chain}
+use Rattle.bb_terms.specs.Lines.{is_stop}
+use Rattle.bb_terms.specs.declared.wire.Wire.{Wire}
+use Rattle.bb_terms.specs.Reads.{read, line}
 use Rattle.bb_written.specs.Written.{written_gate, written_netlist}
 
 -- the net is driven or read

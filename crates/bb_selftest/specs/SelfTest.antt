@@ -2,11 +2,11 @@
 -- of a from which an output or a flip-flop is reached lies in a segment, which reads few leaves, meets every vector of them in its
 -- session, and is compacted into the written signature, which comes out.
 use Rattle.std.specs.Prelude.{ℕ, List}
-use Rattle.bb_netlist.specs.Run.{by_op}
-use Rattle.bb_net.specs.Named.{Named}
+use Rattle.bb_base.specs.Run.{by_op}
+use Rattle.bb_base.specs.Named.{Named}
 use Rattle.bb_net.specs.Sites.{sited}
-use Rattle.bb_rules.specs.declared.plan.Cell.{Cell}
-use Rattle.bb_rules.specs.Plan.{PlanValue}
+use Rattle.bb_terms.specs.declared.plan.Cell.{Cell}
+use Rattle.bb_terms.specs.Plan.{PlanValue}
 use Rattle.bb_normal.specs.Normal.{Normal}
 use Rattle.bb_selftest.specs.WrittenLines.{IsObserver}
 use Rattle.bb_selftest.specs.Covers.{Covers}

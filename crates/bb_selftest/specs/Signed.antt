@@ -1,13 +1,13 @@
 -- Sign: a register that compacts holds the signature of its own lines so far, and the written value is that of all run cycles.
 use Rattle.std.specs.Prelude.{◌≡◌, ◌<◌, ◌≤◌, ◌^◌, ℕ, Bool, true, List, length, map, take, Some, slice_get}
 use Rattle.std.specs.List.{AllZip, flat_map}
-use Rattle.bb_netlist.specs.Net.{Gate}
-use Rattle.bb_netlist.specs.Run.{at, by_op}
-use Rattle.bb_net.specs.Named.{Named}
+use Rattle.bb_base.specs.Net.{Gate}
+use Rattle.bb_base.specs.Run.{at, by_op}
+use Rattle.bb_base.specs.Named.{Named}
 use Rattle.bb_net.specs.Sites.{Site}
-use Rattle.bb_gf2.specs.Bits.{from_bits}
-use Rattle.bb_creg.specs.Signature.{signature}
-use Rattle.bb_rules.specs.Plan.{PlanValue, RegisterValue, compacts}
+use Rattle.bb_base.specs.Bits.{from_bits}
+use Rattle.bb_terms.specs.Signature.{signature}
+use Rattle.bb_terms.specs.Plan.{PlanValue, RegisterValue, compacts}
 use Rattle.bb_testrun.specs.SignatureSoFar.{lines_until}
 use Rattle.bb_selftest.specs.WrittenLines.{q_sites_from, line_site}
 use Rattle.bb_selftest.specs.TestRun.{IsTestRunBy, IsTestRun, run_cycle, unload_cycle}

@@ -1,12 +1,12 @@
 -- Written netlists of valid plans, and their test runs, symbol by symbol.
 use Rattle.std.specs.Prelude.{ℕ, ◌<◌, Bool, List, length}
-use Rattle.bb_netlist.specs.Net.{Gate}
-use Rattle.bb_netlist.specs.Run.{at}
-use Rattle.bb_net.specs.Named.{Named, IsNamed}
+use Rattle.bb_base.specs.Net.{Gate}
+use Rattle.bb_base.specs.Run.{at}
+use Rattle.bb_base.specs.Named.{Named, IsNamed}
 use Rattle.bb_net.specs.Sites.{Site}
-use Rattle.bb_rules.specs.Plan.{PlanValue}
-use Rattle.bb_rules.specs.Valid.{IsValidPlan}
-use Rattle.bb_ctl.specs.declared.wire.Wire.{Wire}
+use Rattle.bb_terms.specs.Plan.{PlanValue}
+use Rattle.bb_terms.specs.Valid.{IsValidPlan}
+use Rattle.bb_terms.specs.declared.wire.Wire.{Wire}
 use Rattle.bb_written.specs.Trace.{IsTestTrace}
 use Rattle.bb_written.specs.Written.{wire_site, written}
 use Rattle.bb_normal.specs.Mirrors.{Mirrors}

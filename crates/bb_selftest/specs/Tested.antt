@@ -1,17 +1,17 @@
 -- Test runs of a written netlist whose original gates are changed: what holds of each of them, and where a change shows.
 use Rattle.std.specs.Prelude.{◌≡◌, ◌≢◌, ◌<◌, ◌+◌, ◌^◌, ◌&&◌, ℕ, suc, Bool, true, List, length}
-use Rattle.bb_netlist.specs.Net.{Gate}
-use Rattle.bb_netlist.specs.Run.{at, by_op}
-use Rattle.bb_net.specs.Named.{Named}
+use Rattle.bb_base.specs.Net.{Gate}
+use Rattle.bb_base.specs.Run.{at, by_op}
+use Rattle.bb_base.specs.Named.{Named}
 use Rattle.bb_net.specs.Sites.{Site}
-use Rattle.bb_creg.specs.Register.{state_after}
-use Rattle.bb_segment.specs.Paths.{Start}
-use Rattle.bb_segment.specs.Function.{IsBitOf}
-use Rattle.bb_segment.specs.Change.{Change, gives_by}
-use Rattle.bb_rules.specs.declared.plan.Cell.{Cell}
-use Rattle.bb_rules.specs.Plan.{PlanValue, chain, compacts, IsCell}
-use Rattle.bb_rules.specs.Lines.{IsStart, IsLeafOf, is_stop}
-use Rattle.bb_rules.specs.Signatures.{code_at}
+use Rattle.bb_terms.specs.Register.{state_after}
+use Rattle.bb_terms.specs.Paths.{Start}
+use Rattle.bb_terms.specs.Function.{IsBitOf}
+use Rattle.bb_terms.specs.Change.{Change, gives_by}
+use Rattle.bb_terms.specs.declared.plan.Cell.{Cell}
+use Rattle.bb_terms.specs.Plan.{PlanValue, chain, compacts, IsCell}
+use Rattle.bb_terms.specs.Lines.{IsStart, IsLeafOf, is_stop}
+use Rattle.bb_terms.specs.Signatures.{code_at}
 use Rattle.bb_normal.specs.Normal.{site_so}
 use Rattle.bb_selftest.specs.WrittenLines.{IsObserver, q_site, read_site, line_site, sited_gate}
 use Rattle.bb_selftest.specs.TestRun.{IsTestRunBy, IsTestRun, run_cycle, unload_cycle}

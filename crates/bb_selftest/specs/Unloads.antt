@@ -1,11 +1,11 @@
 -- Unload: the written values come out bit by bit, the chain's last cell first, and nothing else does.
 use Rattle.std.specs.Prelude.{◌≡◌, ◌⊎◌, ◌<◌, ◌+◌, ◌-◌, ◌*◌, ◌^◌, ◌++◌, ◌==◌, ℕ, suc, nat_le, Bool, false, List, [], ◌∷◌, length, slice_index_or, if◌then◌else◌}
-use Rattle.bb_netlist.specs.Net.{Gate}
-use Rattle.bb_netlist.specs.Run.{at, by_op}
-use Rattle.bb_net.specs.Named.{Named}
+use Rattle.bb_base.specs.Net.{Gate}
+use Rattle.bb_base.specs.Run.{at, by_op}
+use Rattle.bb_base.specs.Named.{Named}
 use Rattle.bb_net.specs.Sites.{Site}
-use Rattle.bb_gf2.specs.Bits.{bits}
-use Rattle.bb_rules.specs.Plan.{PlanValue, RegisterValue, chain}
+use Rattle.bb_base.specs.Bits.{bits}
+use Rattle.bb_terms.specs.Plan.{PlanValue, RegisterValue, chain}
 use Rattle.bb_normal.specs.Normal.{site_so, site_done}
 use Rattle.bb_selftest.specs.TestRun.{IsTestRunBy, IsTestRun, unload_cycle}
 

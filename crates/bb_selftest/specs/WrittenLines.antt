@@ -2,14 +2,14 @@
 use Rattle.std.specs.Prelude.{◌≡◌, ◌==◌, ◌&&◌, ℕ, Bool, true, List, map, filter}
 use Rattle.std.specs.List.{list_any}
 use Rattle.std.specs.Str.{bytes_eq}
-use Rattle.bb_netlist.specs.Net.{Gate, renamed_gate}
-use Rattle.bb_net.specs.Named.{Named}
+use Rattle.bb_base.specs.Net.{Gate, renamed_gate}
+use Rattle.bb_base.specs.Named.{Named}
 use Rattle.bb_net.specs.Sites.{Site, sited}
-use Rattle.bb_segment.specs.Paths.{AtNet, IsLeaf}
-use Rattle.bb_rules.specs.declared.plan.Cell.{Cell}
-use Rattle.bb_rules.specs.Kinds.{is_source, is_observer}
-use Rattle.bb_rules.specs.Plan.{PlanValue, chain, IsCell}
-use Rattle.bb_ctl.specs.Reads.{q_of, qs_from, read, line}
+use Rattle.bb_terms.specs.Paths.{AtNet, IsLeaf}
+use Rattle.bb_terms.specs.declared.plan.Cell.{Cell}
+use Rattle.bb_terms.specs.Kinds.{is_source, is_observer}
+use Rattle.bb_terms.specs.Plan.{PlanValue, chain, IsCell}
+use Rattle.bb_terms.specs.Reads.{q_of, qs_from, read, line}
 use Rattle.bb_written.specs.Written.{wire_site, written_gate}
 
 -- cell i of the chain is c, of register r, and it observes its line

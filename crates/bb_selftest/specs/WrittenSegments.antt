@@ -1,12 +1,12 @@
 -- The segment of a line, at sites: its gates are those of the line's segment in the original, and its leaves the reads of that one's.
 use Rattle.std.specs.Prelude.{◌≡◌, ◌↔◌, ℕ, Contains}
-use Rattle.bb_netlist.specs.Net.{Gate}
-use Rattle.bb_net.specs.Named.{Named}
+use Rattle.bb_base.specs.Net.{Gate}
+use Rattle.bb_base.specs.Named.{Named}
 use Rattle.bb_net.specs.Sites.{Site, sited}
-use Rattle.bb_segment.specs.Paths.{Start, AtNet, IsLeaf, LiesBehind, LiesIn}
-use Rattle.bb_rules.specs.declared.plan.Cell.{Cell}
-use Rattle.bb_rules.specs.Lines.{is_stop}
-use Rattle.bb_rules.specs.Plan.{PlanValue}
+use Rattle.bb_terms.specs.Paths.{Start, AtNet, IsLeaf, LiesBehind, LiesIn}
+use Rattle.bb_terms.specs.declared.plan.Cell.{Cell}
+use Rattle.bb_terms.specs.Lines.{is_stop}
+use Rattle.bb_terms.specs.Plan.{PlanValue}
 use Rattle.bb_selftest.specs.WrittenLines.{read_site, line_site, is_read_site, sited_gate, IsWrittenLeaf}
 
 -- the cell's line, whose walk begins here in the original, has the original's segment

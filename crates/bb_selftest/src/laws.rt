@@ -2,14 +2,14 @@
 
 ghost use Rattle.std.specs.Prelude.{◌≡◌, ℕ, Bool, List, length};
 ghost use Rattle.std.specs.List.{AllByRecursion};
-ghost use Rattle.bb_netlist.specs.Net.{Gate as GateValue};
-ghost use Rattle.bb_netlist.specs.Run.{IsRunBy};
-ghost use Rattle.bb_net.specs.Named.{Named};
+ghost use Rattle.bb_base.specs.Net.{Gate as GateValue};
+ghost use Rattle.bb_base.specs.Run.{IsRunBy};
+ghost use Rattle.bb_base.specs.Named.{Named};
 ghost use Rattle.bb_net.specs.Sites.{Site, sited};
-ghost use Rattle.bb_segment.specs.Change.{Change, IsChangeOf, gives_by};
-ghost use Rattle.bb_rules.specs.declared.plan.Cell.{Cell};
-ghost use Rattle.bb_rules.specs.Plan.{PlanValue};
-ghost use Rattle.bb_rules.specs.Signatures.{AreSignatures};
+ghost use Rattle.bb_terms.specs.Change.{Change, IsChangeOf, gives_by};
+ghost use Rattle.bb_terms.specs.declared.plan.Cell.{Cell};
+ghost use Rattle.bb_terms.specs.Plan.{PlanValue};
+ghost use Rattle.bb_terms.specs.Signatures.{AreSignatures};
 ghost use Rattle.bb_selftest.specs.WrittenLines.{IsObserver};
 ghost use Rattle.bb_selftest.specs.TestRun.{IsTestRunBy, inputs_in_test};
 ghost use Rattle.bb_selftest.specs.TestTrace.{IsWrittenNetlist, IsTracedTest};

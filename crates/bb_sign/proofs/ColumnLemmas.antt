@@ -5,18 +5,18 @@ use Rattle.std.proofs.lemmas.List.{drop_more}
 use Rattle.std.proofs.lemmas.List.Elements.{All-from_recursion}
 use Rattle.std.specs.List.{flat_map}
 use Rattle.bb_base.proofs.Contained.{by_place, contains_at}
-use Rattle.bb_netlist.specs.Net.{Netlist, driven, IsNetlist}
-use Rattle.bb_rules.specs.declared.kind.Kind.{Kind}
-use Rattle.bb_rules.specs.declared.kind.Kind.TheVariants.{Input, State, Split, Cut, Watch, Output}
-use Rattle.bb_rules.specs.declared.plan.Cell.{Cell}
-use Rattle.bb_rules.specs.Kinds.{is_source}
-use Rattle.bb_rules.specs.Plan.{RegisterValue, PlanValue, chain}
-use Rattle.bb_rules.specs.Lines.{is_stop, column_of}
-use Rattle.bb_rules.specs.Rules.{Kinds, Apart, Served, MayStand, IsQ, IsGateNet}
-use Rattle.bb_rules.specs.Valid.{IsValidPlan}
+use Rattle.bb_base.specs.Net.{Netlist, driven, IsNetlist}
+use Rattle.bb_terms.specs.declared.kind.Kind.{Kind}
+use Rattle.bb_terms.specs.declared.kind.Kind.TheVariants.{Input, State, Split, Cut, Watch, Output}
+use Rattle.bb_terms.specs.declared.plan.Cell.{Cell}
+use Rattle.bb_terms.specs.Kinds.{is_source}
+use Rattle.bb_terms.specs.Plan.{RegisterValue, PlanValue, chain}
+use Rattle.bb_terms.specs.Lines.{is_stop, column_of}
+use Rattle.bb_terms.specs.Rules.{Kinds, Apart, Served, MayStand, IsQ, IsGateNet}
+use Rattle.bb_terms.specs.Valid.{IsValidPlan}
 use Rattle.bb_rules.proofs.CellLemmas.{cell_at, column_is}
-use Rattle.bb_rules.proofs.NetLemmas.{input_net_within, q_within, out_within}
-use Rattle.bb_rules.proofs.StopLemmas.{source_at, source_stops}
+use Rattle.bb_terms.proofs.NetLemmas.{input_net_within, q_within, out_within}
+use Rattle.bb_terms.proofs.StopLemmas.{source_at, source_stops}
 use Rattle.bb_sign.specs.Bits.{noted_column, last_column, read_column, AreReadColumns}
 
 -- cells in two parts

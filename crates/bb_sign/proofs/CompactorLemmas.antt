@@ -3,13 +3,13 @@ use Rattle.std.proofs.Common.{arith, ◌≡◌, ℕ, List, [], ◌∷◌, refl, 
 use Rattle.std.proofs.lemmas.List.Elements.{All-from_recursion}
 use Rattle.std.specs.List.{AllByRecursion, AllZip}
 use Rattle.bb_base.proofs.Contained.{by_place}
-use Rattle.bb_netlist.specs.Net.{Netlist}
-use Rattle.bb_segment.specs.Support.{StartExists}
-use Rattle.bb_segment.specs.declared.start.Start.{Start as CodeStart}
-use Rattle.bb_rules.specs.declared.plan.Cell.{Cell}
-use Rattle.bb_rules.specs.Plan.{RegisterValue, PlanValue}
-use Rattle.bb_rules.specs.Rules.{Kinds, Registers, Fits}
-use Rattle.bb_rules.specs.Valid.{IsValidPlan}
+use Rattle.bb_base.specs.Net.{Netlist}
+use Rattle.bb_terms.specs.Support.{StartExists}
+use Rattle.bb_terms.specs.declared.start.Start.{Start as CodeStart}
+use Rattle.bb_terms.specs.declared.plan.Cell.{Cell}
+use Rattle.bb_terms.specs.Plan.{RegisterValue, PlanValue}
+use Rattle.bb_terms.specs.Rules.{Kinds, Registers, Fits}
+use Rattle.bb_terms.specs.Valid.{IsValidPlan}
 use Rattle.bb_sign.specs.Compactors.{CompactorValue, IsLineStart, HasFewLines, IsCompactor}
 use Rattle.bb_sign.proofs.ColumnLemmas.{in_chain}
 use Rattle.bb_sign.proofs.ZipLemmas.{zip_long}

@@ -5,13 +5,13 @@ use Rattle.std.proofs.lemmas.Option.{slice_get_within}
 use Rattle.std.specs.List.{AllByRecursion}
 use Rattle.bb_base.proofs.Contained.{of_all, to_all}
 use Rattle.bb_base.proofs.Lists.{get_some}
-use Rattle.bb_netlist.specs.Net.{Gate, Netlist, driven, IsNetlist}
-use Rattle.bb_netlist.specs.Order.{drivers}
-use Rattle.bb_netlist.specs.Run.{Meets}
-use Rattle.bb_gf2.specs.Parity.{code_bit}
-use Rattle.bb_rules.specs.Plan.{PlanValue}
-use Rattle.bb_rules.specs.Lines.{is_stop, column_of}
-use Rattle.bb_rules.proofs.NetLemmas.{out_within}
+use Rattle.bb_base.specs.Net.{Gate, Netlist, driven, IsNetlist}
+use Rattle.bb_base.specs.Order.{drivers}
+use Rattle.bb_base.specs.Run.{Meets}
+use Rattle.bb_base.specs.Parity.{code_bit}
+use Rattle.bb_terms.specs.Plan.{PlanValue}
+use Rattle.bb_terms.specs.Lines.{is_stop, column_of}
+use Rattle.bb_terms.proofs.NetLemmas.{out_within}
 use Rattle.bb_eqn.specs.Values.{bits_at}
 use Rattle.bb_eqn.proofs.Evaluated.{none_before}
 use Rattle.bb_eqn.proofs.Settled.{ins_below}

@@ -5,8 +5,8 @@ use Rattle.std.proofs.lemmas.List.Elements.{All-from_recursion}
 use Rattle.std.proofs.lemmas.Option.{slice_get-get_or}
 use Rattle.std.specs.List.{AllByRecursion}
 use Rattle.bb_base.proofs.Contained.{of_all, to_all}
-use Rattle.bb_netlist.specs.Net.{Gate, times}
-use Rattle.bb_netlist.specs.Order.{drivers, IsOrder}
+use Rattle.bb_base.specs.Net.{Gate, times}
+use Rattle.bb_base.specs.Order.{drivers, IsOrder}
 use Rattle.bb_eqn.specs.Sequence.{WriteFirst}
 use Rattle.bb_eqn.proofs.Evaluated.{not_first, none_after, none_before}
 use Rattle.bb_eqn.proofs.Picked.{before, picked, to_picked}

@@ -4,21 +4,21 @@ use Rattle.std.proofs.lemmas.Nat.{pow_pos}
 use Rattle.std.specs.List.{AllByRecursion, AllZip, range_with_len}
 use Rattle.bb_base.proofs.Contained.{to_all, place_of}
 use Rattle.bb_base.proofs.Lists.{length_map, map_join}
-use Rattle.bb_netlist.specs.Net.{Netlist, IsNetlist}
-use Rattle.bb_gf2.specs.Bits.{bits, from_bits}
+use Rattle.bb_base.specs.Net.{Netlist, IsNetlist}
+use Rattle.bb_base.specs.Bits.{bits, from_bits}
 use Rattle.bb_gf2.proofs.BitLaws.{from_bits-bits, bits-from_bits}
 use Rattle.bb_gf2.proofs.Pairing.{from_bits_below}
-use Rattle.bb_creg.specs.Register.{state_after}
-use Rattle.bb_creg.specs.OnBits.{zeros}
-use Rattle.bb_creg.specs.Signature.{signature, signature_step, next_signature}
-use Rattle.bb_creg.proofs.Growth.{grows, length_signature}
+use Rattle.bb_terms.specs.Register.{state_after}
+use Rattle.bb_terms.specs.OnBits.{zeros}
+use Rattle.bb_terms.specs.Signature.{signature, signature_step, next_signature}
+use Rattle.bb_terms.proofs.Growth.{grows, length_signature}
 use Rattle.bb_creg.proofs.BitSteps.{bits-signature}
 use Rattle.bb_creg.proofs.WalkSteps.{size_is}
-use Rattle.bb_rules.specs.declared.plan.Cell.{Cell}
-use Rattle.bb_rules.specs.Plan.{RegisterValue, PlanValue, has_input}
-use Rattle.bb_rules.specs.Rules.{Kinds, Fits, IsFrame}
-use Rattle.bb_rules.specs.Valid.{IsValidPlan}
-use Rattle.bb_rules.specs.Signatures.{IsLineBit}
+use Rattle.bb_terms.specs.declared.plan.Cell.{Cell}
+use Rattle.bb_terms.specs.Plan.{RegisterValue, PlanValue, has_input}
+use Rattle.bb_terms.specs.Rules.{Kinds, Fits, IsFrame}
+use Rattle.bb_terms.specs.Valid.{IsValidPlan}
+use Rattle.bb_terms.specs.Signatures.{IsLineBit}
 use Rattle.bb_eqn.specs.Values.{bits_at}
 use Rattle.bb_word.specs.Lanes.{in_lane}
 use Rattle.bb_word.proofs.SignatureLemmas.{next_below}

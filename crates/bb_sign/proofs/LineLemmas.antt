@@ -4,19 +4,19 @@ use Rattle.std.proofs.lemmas.Option.{slice_get-get_or}
 use Rattle.std.specs.List.{AllByRecursion, AllZip}
 use Rattle.std.specs.Option.{option_map}
 use Rattle.bb_base.proofs.Lists.{get_some}
-use Rattle.bb_netlist.specs.Net.{Gate, Netlist, IsNetlist}
-use Rattle.bb_netlist.specs.Run.{by_op}
-use Rattle.bb_netlist.specs.Order.{HasOrder}
-use Rattle.bb_creg.specs.Register.{state_after}
-use Rattle.bb_segment.specs.Paths.{Start, AtNet, Behind}
-use Rattle.bb_segment.specs.Support.{start_in, StartExists}
-use Rattle.bb_segment.specs.declared.start.Start.{Start as CodeStart}
-use Rattle.bb_segment.specs.declared.start.Start.TheVariants.{Net, Gate as GateNumber}
-use Rattle.bb_rules.specs.declared.plan.Cell.{Cell}
-use Rattle.bb_rules.specs.Plan.{PlanValue}
-use Rattle.bb_rules.specs.Rules.{Fits}
-use Rattle.bb_rules.specs.Signatures.{IsLineBit}
-use Rattle.bb_rules.proofs.StopLemmas.{leaf_within}
+use Rattle.bb_base.specs.Net.{Gate, Netlist, IsNetlist}
+use Rattle.bb_base.specs.Run.{by_op}
+use Rattle.bb_base.specs.Order.{HasOrder}
+use Rattle.bb_terms.specs.Register.{state_after}
+use Rattle.bb_terms.specs.Paths.{Start, AtNet, Behind}
+use Rattle.bb_terms.specs.Support.{start_in, StartExists}
+use Rattle.bb_terms.specs.declared.start.Start.{Start as CodeStart}
+use Rattle.bb_terms.specs.declared.start.Start.TheVariants.{Net, Gate as GateNumber}
+use Rattle.bb_terms.specs.declared.plan.Cell.{Cell}
+use Rattle.bb_terms.specs.Plan.{PlanValue}
+use Rattle.bb_terms.specs.Rules.{Fits}
+use Rattle.bb_terms.specs.Signatures.{IsLineBit}
+use Rattle.bb_terms.proofs.StopLemmas.{leaf_within}
 use Rattle.bb_rules.proofs.SignatureLemmas.{one_line_bit}
 use Rattle.bb_sign.specs.Bits.{AreBitsAt}
 use Rattle.bb_sign.specs.Compactors.{IsLineStart, line_bit_in, start_bit}

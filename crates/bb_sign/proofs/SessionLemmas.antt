@@ -5,11 +5,11 @@ use Rattle.std.proofs.lemmas.Option.{slice_get_within}
 use Rattle.std.specs.List.{AllByRecursion, AllZip}
 use Rattle.bb_base.proofs.Contained.{by_place}
 use Rattle.bb_base.proofs.Lists.{all_map, map_twice}
-use Rattle.bb_netlist.specs.Net.{Netlist, IsNetlist}
-use Rattle.bb_rules.specs.Plan.{PlanValue}
-use Rattle.bb_rules.specs.Rules.{Kinds, Sessions, MayCompact}
-use Rattle.bb_rules.specs.Valid.{IsValidPlan}
-use Rattle.bb_rules.specs.Signatures.{IsSigned, AreSignatures}
+use Rattle.bb_base.specs.Net.{Netlist, IsNetlist}
+use Rattle.bb_terms.specs.Plan.{PlanValue}
+use Rattle.bb_terms.specs.Rules.{Kinds, Sessions, MayCompact}
+use Rattle.bb_terms.specs.Valid.{IsValidPlan}
+use Rattle.bb_terms.specs.Signatures.{IsSigned, AreSignatures}
 use Rattle.bb_rules.proofs.SignedLemmas.{some_signatures}
 use Rattle.bb_sign.specs.Compactors.{AreSigned}
 

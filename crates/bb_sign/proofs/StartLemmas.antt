@@ -3,16 +3,16 @@ use Rattle.std.proofs.Common.{arith, ◌≡◌, ℕ, ◌≤◌, true, map, refl,
 use Rattle.std.proofs.lemmas.Option.{slice_get-map}
 use Rattle.std.specs.Option.{option_map}
 use Rattle.bb_base.proofs.Contained.{contains_at}
-use Rattle.bb_netlist.specs.Net.{Gate, Flop, Netlist, times, IsNetlist}
-use Rattle.bb_netlist.proofs.GateLemmas.{stands_once, outs_times, at_most_one, out_at}
-use Rattle.bb_segment.specs.Paths.{AtNet, Behind}
-use Rattle.bb_rules.specs.declared.kind.Kind.{Kind}
-use Rattle.bb_rules.specs.declared.kind.Kind.TheVariants.{Input, State, Split, Cut, Watch, Output}
-use Rattle.bb_rules.specs.declared.plan.Cell.{Cell}
-use Rattle.bb_rules.specs.Kinds.{is_observer}
-use Rattle.bb_rules.specs.Lines.{d_of, IsStartOf, IsStart}
-use Rattle.bb_rules.specs.Rules.{MayStand, Fits, IsInput, IsQ, IsGateNet}
-use Rattle.bb_rules.proofs.NetLemmas.{d_is}
+use Rattle.bb_base.specs.Net.{Gate, Flop, Netlist, times, IsNetlist}
+use Rattle.bb_base.proofs.GateLemmas.{stands_once, outs_times, at_most_one, out_at}
+use Rattle.bb_terms.specs.Paths.{AtNet, Behind}
+use Rattle.bb_terms.specs.declared.kind.Kind.{Kind}
+use Rattle.bb_terms.specs.declared.kind.Kind.TheVariants.{Input, State, Split, Cut, Watch, Output}
+use Rattle.bb_terms.specs.declared.plan.Cell.{Cell}
+use Rattle.bb_terms.specs.Kinds.{is_observer}
+use Rattle.bb_terms.specs.Lines.{d_of, IsStartOf, IsStart}
+use Rattle.bb_terms.specs.Rules.{MayStand, Fits, IsInput, IsQ, IsGateNet}
+use Rattle.bb_terms.proofs.NetLemmas.{d_is}
 
 module _ (a : Netlist ℕ) (is : IsNetlist a) where
   once_q : (net : ℕ) → IsQ a net → 1 ≤ times net (map (λ (f : Flop ℕ). f.q) a.flops)

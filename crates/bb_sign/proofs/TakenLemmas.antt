@@ -1,6 +1,6 @@
 -- Registers that take in their lines at some states.
 use Rattle.std.proofs.Common.{arith, ◌≡◌, ℕ, zero, suc, ◌+◌, ◌<◌, refl, ap, ◌∙◌}
-use Rattle.bb_creg.specs.Signature.{next_signature}
+use Rattle.bb_terms.specs.Signature.{next_signature}
 use Rattle.bb_sign.specs.Compactors.{taken_in}
 
 -- one state more

@@ -2,7 +2,7 @@
 use Rattle.std.proofs.Common.{arith, ◌≡◌, ℕ, zero, suc, ◌+◌, ◌*◌, ◌^◌, ◌<◌, ◌≤◌, Bool, false, if◌then◌else◌, List, [], ◌∷◌, ◌++◌, length, map, take, get_or, set, refl, sym, ap, subst, ◌∙◌}
 use Rattle.std.proofs.lemmas.List.{map_more, take_more_set, length-map}
 use Rattle.bb_base.proofs.Lists.{map_join}
-use Rattle.bb_gf2.specs.Bits.{from_bits}
+use Rattle.bb_base.specs.Bits.{from_bits}
 use Rattle.bb_gf2.proofs.Pairing.{from_bits_below}
 use Rattle.bb_word.specs.Lanes.{lane, in_lane}
 use Rattle.bb_word.proofs.LaneLemmas.{lane_zero}

@@ -1,12 +1,12 @@
 -- The bits of all nets at a state of the complete register, and the table from which sources have theirs. No public contract cites this.
 use Rattle.std.specs.Prelude.{◌≡◌, ℕ, ◌<◌, ◌&&◌, ◌==◌, Bool, true, false, List, [], ◌∷◌, length, if◌then◌else◌, Option, None, Some, slice_index_or, Contains}
-use Rattle.bb_netlist.specs.Net.{Gate, Netlist, driven}
-use Rattle.bb_netlist.specs.Run.{Meets}
-use Rattle.bb_rules.specs.declared.plan.Cell.{Cell}
-use Rattle.bb_rules.specs.Kinds.{is_source}
-use Rattle.bb_rules.specs.Plan.{PlanValue}
-use Rattle.bb_rules.specs.Lines.{is_stop, column_of}
-use Rattle.bb_rules.specs.Signatures.{code_at}
+use Rattle.bb_base.specs.Net.{Gate, Netlist, driven}
+use Rattle.bb_base.specs.Run.{Meets}
+use Rattle.bb_terms.specs.declared.plan.Cell.{Cell}
+use Rattle.bb_terms.specs.Kinds.{is_source}
+use Rattle.bb_terms.specs.Plan.{PlanValue}
+use Rattle.bb_terms.specs.Lines.{is_stop, column_of}
+use Rattle.bb_terms.specs.Signatures.{code_at}
 
 -- the column that a table has for a net
 abbrev pub noted_column : List (Option ℕ) → ℕ → Option ℕ

@@ -1,21 +1,21 @@
 -- Registers as they take in their lines: where each line starts, and what a register holds after a state. No public contract cites this.
 use Rattle.std.specs.Prelude.{◌≡◌, ℕ, ◌<◌, ◌≤◌, ◌^◌, zero, suc, Bool, false, List, length, map, Option, None, Some, slice_get, slice_index, All}
 use Rattle.std.specs.List.{AllZip, range_with_len}
-use Rattle.bb_netlist.specs.Net.{Gate, Netlist}
-use Rattle.bb_netlist.specs.Run.{by_op}
-use Rattle.bb_gf2.specs.Bits.{from_bits}
-use Rattle.bb_creg.specs.Signature.{signature, next_signature}
-use Rattle.bb_segment.specs.Paths.{Start}
-use Rattle.bb_segment.specs.Function.{line_bit}
-use Rattle.bb_segment.specs.Support.{start_in, StartExists}
-use Rattle.bb_segment.specs.declared.start.Start.{Start as CodeStart}
+use Rattle.bb_base.specs.Net.{Gate, Netlist}
+use Rattle.bb_base.specs.Run.{by_op}
+use Rattle.bb_base.specs.Bits.{from_bits}
+use Rattle.bb_terms.specs.Signature.{signature, next_signature}
+use Rattle.bb_terms.specs.Paths.{Start}
+use Rattle.bb_terms.specs.Function.{line_bit}
+use Rattle.bb_terms.specs.Support.{start_in, StartExists}
+use Rattle.bb_terms.specs.declared.start.Start.{Start as CodeStart}
 use Rattle.bb_eqn.specs.Values.{bits_at}
 use Rattle.bb_word.specs.Lanes.{in_lane}
-use Rattle.bb_rules.specs.declared.plan.Cell.{Cell}
-use Rattle.bb_rules.specs.Plan.{RegisterValue, PlanValue, has_input}
-use Rattle.bb_rules.specs.Lines.{IsStart}
-use Rattle.bb_rules.specs.Rules.{MayCompact}
-use Rattle.bb_rules.specs.Signatures.{IsSigned, HasSignature}
+use Rattle.bb_terms.specs.declared.plan.Cell.{Cell}
+use Rattle.bb_terms.specs.Plan.{RegisterValue, PlanValue, has_input}
+use Rattle.bb_terms.specs.Lines.{IsStart}
+use Rattle.bb_terms.specs.Rules.{MayCompact}
+use Rattle.bb_terms.specs.Signatures.{IsSigned, HasSignature}
 
 -- the mask of a register's feedback, and where its lines start
 pub record CompactorValue : Type 0 where

@@ -1,12 +1,12 @@
 -- How the bits of all nets are computed: some nets have columns, and gates give the others theirs. No public contract cites this.
 use Rattle.std.specs.Prelude.{◌≡◌, ℕ, ◌<◌, Bool, true, false, List, [], length, Option, None, Some, slice_get, All, Contains}
 use Rattle.std.specs.List.{AllZip}
-use Rattle.bb_netlist.specs.Net.{Gate, Netlist, driven}
-use Rattle.bb_netlist.specs.Order.{drivers}
-use Rattle.bb_netlist.specs.Run.{Meets}
-use Rattle.bb_gf2.specs.Parity.{code_bit}
-use Rattle.bb_rules.specs.Plan.{PlanValue}
-use Rattle.bb_rules.specs.Lines.{is_stop, column_of}
+use Rattle.bb_base.specs.Net.{Gate, Netlist, driven}
+use Rattle.bb_base.specs.Order.{drivers}
+use Rattle.bb_base.specs.Run.{Meets}
+use Rattle.bb_base.specs.Parity.{code_bit}
+use Rattle.bb_terms.specs.Plan.{PlanValue}
+use Rattle.bb_terms.specs.Lines.{is_stop, column_of}
 use Rattle.bb_eqn.specs.Sequence.{WriteFirst}
 use Rattle.bb_sign.specs.Bits.{noted_column}
 

@@ -1,7 +1,7 @@
 //! The bits of all nets at 64 states.
 
 ghost use Rattle.std.specs.Prelude.{◌≡◌, ◌<◌, ◌^◌, ℕ, Some, length, slice_get, slice_index, All, Contains};
-ghost use Rattle.bb_creg.specs.Register.{IsDegree, IsMask};
+ghost use Rattle.bb_terms.specs.Register.{IsDegree, IsMask};
 ghost use Rattle.bb_eqn.specs.Values.{bits_at};
 ghost use Rattle.bb_word.specs.Lanes.{in_lane, state_on};
 ghost use Rattle.bb_sign.specs.Evaluation.{CanBeEvaluated, AreGivenBits};

@@ -2,11 +2,11 @@
 
 ghost use Rattle.std.specs.Prelude.{◌≡◌, ◌<◌, ◌^◌, ℕ, None, length, All, IfOk};
 ghost use Rattle.std.specs.List.{flat_map};
-ghost use Rattle.bb_rules.specs.Valid.{IsValidPlan};
+ghost use Rattle.bb_terms.specs.Valid.{IsValidPlan};
 ghost use Rattle.bb_sign.specs.Bits.{noted_column, last_column, AreReadColumns};
 
-use bb_netlist::Netlist;
-use bb_rules::{Cell, Plan, Register};
+use bb_base::Netlist;
+use bb_terms::{Cell, Plan, Register};
 use std::alloc::{AllocError, Global};
 
 /// Notes the columns of a register's source cells at their nets.

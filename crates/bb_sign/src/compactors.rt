@@ -2,17 +2,16 @@
 
 ghost use Rattle.std.specs.Prelude.{◌≡◌, ◌<◌, ◌≤◌, ◌^◌, ℕ, Some, length, All, IfOk, slice_get, slice_index};
 ghost use Rattle.std.specs.List.{AllZip};
-ghost use Rattle.bb_netlist.specs.Net.{driven, IsNetlist};
-ghost use Rattle.bb_gf2.specs.Bits.{from_bits};
-ghost use Rattle.bb_rules.specs.Valid.{IsValidPlan};
+ghost use Rattle.bb_base.specs.Net.{driven, IsNetlist};
+ghost use Rattle.bb_base.specs.Bits.{from_bits};
+ghost use Rattle.bb_terms.specs.Valid.{IsValidPlan};
 ghost use Rattle.bb_word.specs.Lanes.{in_lane};
 ghost use Rattle.bb_sign.specs.Compactors.{CompactorValue, HasFewLines, IsCompactor, AreHeld, taken_in, compacted};
 
 use crate::lines::rows_of;
 use crate::starts::starts_of;
-use bb_netlist::Netlist;
-use bb_rules::{Plan, Register};
-use bb_segment::Start;
+use bb_base::Netlist;
+use bb_terms::{Plan, Register, Start};
 use bb_word::{lines_at, misr_step, transpose};
 use std::alloc::{AllocError, Global};
 use std::marker::Model;

@@ -1,15 +1,16 @@
 //! How the bits of all nets are computed.
 
 ghost use Rattle.std.specs.Prelude.{◌≡◌, ◌≢◌, ◌<◌, ◌≤◌, ◌^◌, ℕ, true, false, None, length, map, All, IfOk};
-ghost use Rattle.bb_netlist.specs.Net.{times};
-ghost use Rattle.bb_netlist.specs.Order.{IsOrder};
-ghost use Rattle.bb_rules.specs.Valid.{IsValidPlan};
+ghost use Rattle.bb_base.specs.Net.{times};
+ghost use Rattle.bb_base.specs.Order.{IsOrder};
+ghost use Rattle.bb_terms.specs.Valid.{IsValidPlan};
 ghost use Rattle.bb_sign.specs.Bits.{noted_column};
 ghost use Rattle.bb_sign.specs.Evaluation.{EvaluationValue, AreNotedSources, AreOpenGates, IsEvaluation};
 
 use crate::columns::columns_of;
-use bb_netlist::{Gate, Netlist, Order};
-use bb_rules::Plan;
+use bb_base::{Gate, Netlist};
+use bb_netlist::Order;
+use bb_terms::Plan;
 use smallvec::SmallVec;
 use std::alloc::{AllocError, Global};
 use std::marker::Model;

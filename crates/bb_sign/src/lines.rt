@@ -1,15 +1,15 @@
 //! The lines of a register at 64 states.
 
 ghost use Rattle.std.specs.Prelude.{◌≡◌, ◌<◌, ◌≤◌, ℕ, length, All};
-ghost use Rattle.bb_netlist.specs.Net.{driven};
-ghost use Rattle.bb_gf2.specs.Bits.{from_bits};
-ghost use Rattle.bb_segment.specs.Support.{StartExists};
+ghost use Rattle.bb_base.specs.Net.{driven};
+ghost use Rattle.bb_base.specs.Bits.{from_bits};
+ghost use Rattle.bb_terms.specs.Support.{StartExists};
 ghost use Rattle.bb_eqn.specs.Values.{bits_at};
 ghost use Rattle.bb_word.specs.Lanes.{lane, in_lane};
 ghost use Rattle.bb_sign.specs.Compactors.{start_bit, line_word};
 
-use bb_netlist::Netlist;
-use bb_segment::Start;
+use bb_base::Netlist;
+use bb_terms::Start;
 use bb_word::gate_word;
 
 /// The bits of a line, a lane a state.

@@ -1,15 +1,16 @@
 //! The signatures of each session's registers.
 
 ghost use Rattle.std.specs.Prelude.{◌≡◌, ◌<◌, ℕ, length, map, All, IfOk, slice_index};
-ghost use Rattle.bb_netlist.specs.Order.{IsOrder};
-ghost use Rattle.bb_rules.specs.Valid.{IsValidFor};
-ghost use Rattle.bb_rules.specs.Signatures.{AreSignatures};
+ghost use Rattle.bb_base.specs.Order.{IsOrder};
+ghost use Rattle.bb_terms.specs.Valid.{IsValidFor};
+ghost use Rattle.bb_terms.specs.Signatures.{AreSignatures};
 
 use crate::compactors::compactors_of;
 use crate::evaluation::evaluation_of;
 use crate::walk::walk;
-use bb_netlist::{Netlist, Order};
-use bb_rules::{Session, Valid};
+use bb_base::Netlist;
+use bb_netlist::Order;
+use bb_terms::{Session, Valid};
 use std::alloc::{AllocError, Global};
 
 /// The registers of each session.

@@ -2,17 +2,16 @@
 
 ghost use Rattle.std.specs.Prelude.{◌≡◌, ◌≤◌, ℕ, true, All, Some, IfOk};
 ghost use Rattle.std.specs.List.{AllZip};
-ghost use Rattle.bb_netlist.specs.Net.{IsNetlist};
-ghost use Rattle.bb_segment.specs.Paths.{Start as PlainStart};
-ghost use Rattle.bb_segment.specs.Support.{start_in, StartExists};
-ghost use Rattle.bb_rules.specs.Kinds.{is_observer};
-ghost use Rattle.bb_rules.specs.Lines.{IsStart};
-ghost use Rattle.bb_rules.specs.Rules.{Fits};
+ghost use Rattle.bb_base.specs.Net.{IsNetlist};
+ghost use Rattle.bb_terms.specs.Paths.{Start as PlainStart};
+ghost use Rattle.bb_terms.specs.Support.{start_in, StartExists};
+ghost use Rattle.bb_terms.specs.Kinds.{is_observer};
+ghost use Rattle.bb_terms.specs.Lines.{IsStart};
+ghost use Rattle.bb_terms.specs.Rules.{Fits};
 ghost use Rattle.bb_sign.specs.Compactors.{IsLineStart};
 
-use bb_netlist::{Driver, Netlist};
-use bb_rules::Cell;
-use bb_segment::Start;
+use bb_base::{Driver, Netlist};
+use bb_terms::{Cell, Start};
 use std::alloc::{AllocError, Global};
 
 /// Where the walk back from an observer starts: at the d of its flip-flop, or behind the gate of its net.

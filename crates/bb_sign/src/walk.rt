@@ -2,16 +2,16 @@
 
 ghost use Rattle.std.specs.Prelude.{◌≡◌, length};
 ghost use Rattle.std.specs.List.{AllZip};
-ghost use Rattle.bb_netlist.specs.Net.{driven, IsNetlist};
-ghost use Rattle.bb_rules.specs.Valid.{IsValidPlan};
+ghost use Rattle.bb_base.specs.Net.{driven, IsNetlist};
+ghost use Rattle.bb_terms.specs.Valid.{IsValidPlan};
 ghost use Rattle.bb_sign.specs.Evaluation.{IsEvaluation};
 ghost use Rattle.bb_sign.specs.Compactors.{IsCompactor, AreHeld, AreSignedUntil, AreSigned};
 
 use crate::bits::fill_bits;
 use crate::compactors::{Compactor, compact_all};
 use crate::evaluation::Evaluation;
-use bb_netlist::Netlist;
-use bb_rules::Plan;
+use bb_base::Netlist;
+use bb_terms::Plan;
 
 /// From registers that hold 0 to their signatures.
 pub(crate) fn walk(

@@ -11,7 +11,7 @@ use Rattle.bb_base.specs.declared.operator.Op.TheVariants.{And, Nand, Or, Nor, X
 use Rattle.bb_base.specs.declared.variable.Role.{Role}
 use Rattle.bb_base.specs.declared.variable.Role.TheVariants.{Input, Output, Wire}
 use Rattle.bb_base.specs.Name.{IsName, IsNameByte, is_name_byte}
-use Rattle.bb_netlist.specs.Net.{Gate, Flop}
+use Rattle.bb_base.specs.Net.{Gate, Flop}
 use Rattle.bb_base.specs.Variables.{Entry, Bit, IsEntry, IsRange}
 use Rattle.bb_spell.specs.Spelling.{stands_plain, spelled_name, spelled_index, spelled_bit, further, joined, module_line, role_word, spelled_range, declaration, statement_by, gate_line, pins, flop_line}
 use Rattle.bb_spell.specs.Canonical.{with_feed, port_names, flop_lines, canonical_lines}
@@ -19,7 +19,7 @@ use Rattle.bb_spell.specs.Front.{index_limit}
 use Rattle.bb_spell.specs.TextLines.{is_line_byte}
 use Rattle.bb_spell.proofs.Again.{Pass, decimal_passes, name_passes}
 use Rattle.bb_spell.specs.Writable.{IsIndex, IsBitText, IsGateText, IsFlopText, HasClock, IsText}
-use Rattle.bb_net.specs.Named.{Design}
+use Rattle.bb_base.specs.Named.{Design}
 use Rattle.bb_base.proofs.Lists.{all_join}
 
 -- no line feed

@@ -2,9 +2,9 @@
 use Rattle.std.proofs.Common.{◌≡◌, ℕ, ◌<◌, List, [], ◌∷◌, ◌++◌, length, map, get_or, sym, subst, All, Some}
 use Rattle.std.specs.List.{AllByRecursion, flat_map}
 use Rattle.std.proofs.lemmas.List.Elements.{All-from_recursion, recursion_from_All}
-use Rattle.bb_netlist.specs.Net.{Gate, Flop, driven, reads}
+use Rattle.bb_base.specs.Net.{Gate, Flop, driven, reads}
 use Rattle.bb_base.specs.Variables.{IsBit}
-use Rattle.bb_net.specs.Named.{Named, IsNamed}
+use Rattle.bb_base.specs.Named.{Named, IsNamed}
 use Rattle.bb_base.specs.declared.variable.BitName.{BitName}
 use Rattle.bb_base.proofs.Lists.{all_front, all_back, all_map}
 

@@ -3,7 +3,7 @@ use Rattle.std.proofs.Common.{drop, slice_get, Some, ◌+◌, ◌≡◌, ℕ, Li
 use Rattle.std.specs.List.{flat_map}
 use Rattle.std.proofs.lemmas.List.Concat.{flat_map-append}
 use Rattle.bb_base.specs.Variables.{Entry}
-use Rattle.bb_net.specs.Named.{Design}
+use Rattle.bb_base.specs.Named.{Design}
 use Rattle.bb_spell.proofs.Ports.{drop_at}
 use Rattle.bb_spell.specs.Spelling.{module_line, declaration, gate_line}
 use Rattle.bb_spell.specs.Canonical.{port_names, flop_lines, with_feed, canonical_text}

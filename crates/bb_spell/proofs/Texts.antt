@@ -2,9 +2,9 @@
 use Rattle.std.proofs.Common.{◌≡◌, ℕ, ◌<◌, List, [], ◌∷◌, length, map, Option, Some, None, IsSome, ◌↔◌, refl, sym, arith, subst, ◌+◌, ◌≤◌, ◌++◌, Bool, true, false, length-append, ◌-◌, nat_le, All, slice_get, if◌then◌else◌}
 use Rattle.std.specs.Option.{option_map}
 use Rattle.bb_base.specs.declared.variable.BitName.{BitName}
-use Rattle.bb_netlist.specs.Net.{Flop, renamed_flop, Gate, driven, reads, renamed_gate, HasArity}
+use Rattle.bb_base.specs.Net.{Flop, renamed_flop, Gate, driven, reads, renamed_gate, HasArity}
 use Rattle.bb_base.specs.Variables.{Entry, Bit, bit_of, IsEntry, IsBit, IsRange, bit_in, range_width, is_port}
-use Rattle.bb_net.specs.Named.{Named, design_of, net_text, name_of_net, IsNamed}
+use Rattle.bb_base.specs.Named.{Named, design_of, net_text, name_of_net, IsNamed}
 use Rattle.bb_base.proofs.Lists.{length_map, all_front, all_back, all_map, all_map_back, both_map}
 use Rattle.bb_spell.specs.Canonical.{port_names}
 use Rattle.bb_spell.specs.Limits.{IsNumbered, IsBuildable}

@@ -1,9 +1,9 @@
 -- The canonical text of a module: one line for each thing, in the module's order. It is this project's own.
 use Rattle.std.specs.Prelude.{◌≡◌, length, take, ℕ, ◌+◌, List, [], ◌∷◌, ◌++◌, map, filter, codes, Option}
 use Rattle.std.specs.List.{flat_map}
-use Rattle.bb_netlist.specs.Net.{Flop}
+use Rattle.bb_base.specs.Net.{Flop}
 use Rattle.bb_base.specs.Variables.{Entry, Bit, is_port}
-use Rattle.bb_net.specs.Named.{Design}
+use Rattle.bb_base.specs.Named.{Design}
 use Rattle.bb_spell.specs.Spelling.{module_line, declaration, gate_line, flop_line}
 
 -- the names of the ports in order

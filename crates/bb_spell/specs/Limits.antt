@@ -1,7 +1,7 @@
 -- Limits under which a named netlist has a canonical text of its own, and is built from it.
 use Rattle.std.specs.Prelude.{◌<◌, ◌≤◌, ◌^◌, length}
-use Rattle.bb_net.specs.Named.{Named, IsNamed}
-use Rattle.bb_net.specs.Building.{net_limit}
+use Rattle.bb_base.specs.Named.{Named, IsNamed}
+use Rattle.bb_base.specs.Building.{net_limit}
 
 -- a named netlist with no more flip-flops than are numbered
 pub record IsNumbered (n : Named) : Type 0 where

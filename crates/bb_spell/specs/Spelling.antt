@@ -5,7 +5,7 @@ use Rattle.bb_base.specs.declared.operator.Op.{Op}
 use Rattle.bb_base.specs.declared.operator.Op.TheVariants.{And, Nand, Or, Nor, Xor, Xnor, Not, Buf, Zero, One}
 use Rattle.bb_base.specs.declared.variable.Role.{Role}
 use Rattle.bb_base.specs.declared.variable.Role.TheVariants.{Input, Output, Wire}
-use Rattle.bb_netlist.specs.Net.{Gate, Flop}
+use Rattle.bb_base.specs.Net.{Gate, Flop}
 use Rattle.bb_base.specs.Variables.{Entry, Bit}
 use Rattle.bb_base.specs.Words.{starts_word, is_word_byte}
 use Rattle.bb_base.specs.Keywords.{is_keyword}

@@ -4,8 +4,8 @@ use Rattle.std.specs.List.{AllByRecursion}
 use Rattle.bb_base.specs.Name.{IsName}
 use Rattle.bb_base.specs.Operators.{IsArity}
 use Rattle.bb_base.specs.Variables.{Bit, IsEntry}
-use Rattle.bb_netlist.specs.Net.{Gate, Flop}
-use Rattle.bb_net.specs.Named.{Design}
+use Rattle.bb_base.specs.Net.{Gate, Flop}
+use Rattle.bb_base.specs.Named.{Design}
 use Rattle.bb_spell.specs.Canonical.{port_names}
 use Rattle.bb_spell.specs.Front.{index_limit}
 

@@ -1,14 +1,14 @@
 ghost use Rattle.std.specs.Prelude.{◌≡◌, ◌++◌, ◌<◌, Option, Some, All, length, map, OnOk};
 ghost use Rattle.std.specs.List.{flat_map};
 ghost use Rattle.bb_base.specs.Variables.{IsBit, bit_of};
-ghost use Rattle.bb_netlist.specs.Net.{renamed_gate, renamed_flop};
-ghost use Rattle.bb_net.specs.Named.{net_text};
+ghost use Rattle.bb_base.specs.Net.{renamed_gate, renamed_flop};
+ghost use Rattle.bb_base.specs.Named.{net_text};
 ghost use Rattle.bb_spell.specs.Spelling.{spelled_name, spelled_bit, further, joined, role_word, spelled_range, declaration, op_word, constant_line, primitive_line, gate_line, pins, flop_line, module_line};
 ghost use Rattle.bb_spell.specs.Canonical.{port_names};
 
 use crate::spell::{write_bit, write_name, write_net, write_number};
-use bb_base::is_port_role;
-use bb_net::{BitName, Flop, Gate, Name, Named, NetId, Op, Role, Variable};
+use bb_base::{BitName, Flop, Gate, Name, NetId, Op, Role, Variable, is_port_role};
+use bb_net::Named;
 use std::alloc::AllocError;
 
 /// Appends the ports' names, parted by commas.

@@ -8,8 +8,7 @@ ghost use Rattle.bb_spell.specs.Front.{IsRead, begins_with, after_mark, word_of,
 ghost use Rattle.bb_spell.specs.declared.scan.LineFault.TheVariants.{NoMemory};
 
 use crate::spell::stands_plain;
-use bb_base::may_follow;
-use bb_net::Name;
+use bb_base::{Name, may_follow};
 use std::alloc::{AllocError, AllocFailed, Global};
 use std::marker::Model;
 

@@ -1,12 +1,12 @@
 ghost use Rattle.std.specs.Prelude.{◌≡◌, ◌++◌, ◌<◌, ◌+◌, ◌-◌, Some, length, OnOk, decimal};
 ghost use Rattle.std.specs.List.{list_all};
 ghost use Rattle.bb_base.specs.Variables.{IsBit, bit_of};
-ghost use Rattle.bb_net.specs.Named.{net_text};
+ghost use Rattle.bb_base.specs.Named.{net_text};
 ghost use Rattle.bb_base.specs.Words.{is_word_byte};
 ghost use Rattle.bb_spell.specs.Spelling.{is_simple, stands_plain, spelled_name, spelled_index, spelled_bit};
 
-use bb_base::{index_of, keyword_of, may_follow, may_start};
-use bb_net::{BitName, Named, NetId};
+use bb_base::{BitName, NetId, index_of, keyword_of, may_follow, may_start};
+use bb_net::Named;
 use itoa::Buffer;
 use std::alloc::AllocError;
 

@@ -1,13 +1,14 @@
 ghost use Rattle.std.specs.Prelude.{◌≡◌, ◌++◌, ◌<◌, [], Some, None, map, OnOk, OnErr};
 ghost use Rattle.std.specs.List.{flat_map};
 ghost use Rattle.bb_base.specs.Variables.{IsBit, bit_of};
-ghost use Rattle.bb_netlist.specs.Net.{renamed_gate, renamed_flop};
-ghost use Rattle.bb_net.specs.Named.{IsNamed, net_text, design_of};
+ghost use Rattle.bb_base.specs.Net.{renamed_gate, renamed_flop};
+ghost use Rattle.bb_base.specs.Named.{IsNamed, net_text, design_of};
 ghost use Rattle.bb_spell.specs.Spelling.{declaration, gate_line};
 ghost use Rattle.bb_spell.specs.Canonical.{with_feed, flop_lines, canonical_text, GrowsFrom};
 
 use crate::line::{write_declaration, write_flop, write_module, write_statement};
-use bb_net::{BitName, Named};
+use bb_base::BitName;
+use bb_net::Named;
 use std::alloc::{AllocError, Global};
 
 /// Ends the line and appends it to the text. The line is then empty.

@@ -4,11 +4,11 @@ use Rattle.bb_base.specs.declared.operator.Op.{Op}
 use Rattle.bb_base.specs.declared.operator.Op.TheVariants.{And, Nand, Or, Nor, Xor, Not, Buf, Zero, One}
 use Rattle.bb_base.specs.declared.variable.Role.TheVariants.{Input, Output, Wire}
 use Rattle.bb_base.specs.declared.variable.BitName.{BitName}
-use Rattle.bb_netlist.specs.Net.{Gate, Flop}
-use Rattle.bb_net.specs.Named.{Named}
+use Rattle.bb_base.specs.Net.{Gate, Flop}
+use Rattle.bb_base.specs.Named.{Named}
 use Rattle.bb_net.specs.Sites.{Site}
-use Rattle.bb_rules.specs.declared.kind.Kind.TheVariants.{Input as InputCell, State as StateCell, Split as SplitCell, Cut as CutCell, Watch as WatchCell, Output as OutputCell}
-use Rattle.bb_rules.specs.Plan.{PlanValue}
+use Rattle.bb_terms.specs.declared.kind.Kind.TheVariants.{Input as InputCell, State as StateCell, Split as SplitCell, Cut as CutCell, Watch as WatchCell, Output as OutputCell}
+use Rattle.bb_terms.specs.Plan.{PlanValue}
 use Rattle.bb_rules.specs.Half.{half}
 use Rattle.bb_written.specs.Written.{scalar_entry, scalar_site, written}
 

@@ -9,17 +9,17 @@ use Rattle.bb_parse.specs.declared.syntax.Step.{Step}
 use Rattle.bb_parse.specs.declared.syntax.Step.TheVariants as step
 use Rattle.bb_fault.specs.Firsts.{first_answer}
 use Rattle.bb_fault.proofs.Parted.{none-second}
-use Rattle.bb_gates.specs.declared.value.Bit.{Bit}
+use Rattle.bb_scope.specs.declared.value.Bit.{Bit}
 use Rattle.bb_scope.specs.References.{ref_fault, ref_bits, left_width}
 use Rattle.bb_scope.specs.Terminals.{outs_of, ins_of}
-use Rattle.bb_width.specs.Sizes.{width, step_stack, steps_stack, last_size, expr_fault}
-use Rattle.bb_width.specs.Parts.{assign_fault}
-use Rattle.bb_drive.specs.Work.{Work}
-use Rattle.bb_gates.specs.Making.{New, To, last_value, step_made, steps_made, terminal_made, terminals_made, copied_onto, makes_gates, assigned, driven_bits, prim_made}
-use Rattle.bb_meaning.specs.ValueSizes.{value_sizes}
-use Rattle.bb_meaning.proofs.Operators.{width_is}
-use Rattle.bb_meaning.proofs.Expressions.{counted}
-use Rattle.bb_meaning.proofs.Assigns.{fine-width, targets-length}
+use Rattle.bb_scope.specs.Sizes.{width, step_stack, steps_stack, last_size, expr_fault}
+use Rattle.bb_scope.specs.Parts.{assign_fault}
+use Rattle.bb_fault.specs.Work.{Work}
+use Rattle.bb_scope.specs.Making.{New, To, last_value, step_made, steps_made, terminal_made, terminals_made, copied_onto, makes_gates, assigned, driven_bits, prim_made}
+use Rattle.bb_scope.specs.ValueSizes.{value_sizes}
+use Rattle.bb_scope.proofs.Operators.{width_is}
+use Rattle.bb_scope.proofs.Expressions.{counted}
+use Rattle.bb_scope.proofs.Assigns.{fine-width, targets-length}
 use Rattle.bb_targets.proofs.MarkLaws.{hits}
 use Rattle.bb_targets.proofs.Adding.{Adds, grounded-adds, inverted-adds, joined-adds, between-adds, copied-adds, driven-adds}
 

@@ -5,12 +5,12 @@ use Rattle.std.specs.Prelude.{Option, Some, None, nat_eq}
 use Rattle.bb_base.specs.declared.operator.Op.{Op}
 use Rattle.bb_base.specs.declared.operator.Op.TheVariants.{And, Or, Not, Buf}
 use Rattle.bb_base.proofs.Lists.{map_join}
-use Rattle.bb_netlist.specs.Net.{Gate}
-use Rattle.bb_gates.specs.declared.value.Bit.{Bit}
-use Rattle.bb_gates.specs.declared.value.Bit.TheVariants.{Net, Fixed}
-use Rattle.bb_drive.specs.Work.{Work, Clocked, drive, make, make_onto, constant, flop_made}
-use Rattle.bb_gates.specs.Making.{Outs, New, To, grounded, first_out, other_outs, each_alone, each_pair, each_choice, inverted, joined_by, choice_between, copied_onto, all_driven}
-use Rattle.bb_meaning.proofs.Operators.{grounded-length}
+use Rattle.bb_base.specs.Net.{Gate}
+use Rattle.bb_scope.specs.declared.value.Bit.{Bit}
+use Rattle.bb_scope.specs.declared.value.Bit.TheVariants.{Net, Fixed}
+use Rattle.bb_fault.specs.Work.{Work, Clocked, drive, make, make_onto, constant, flop_made}
+use Rattle.bb_scope.specs.Making.{Outs, New, To, grounded, first_out, other_outs, each_alone, each_pair, each_choice, inverted, joined_by, choice_between, copied_onto, all_driven}
+use Rattle.bb_scope.proofs.Operators.{grounded-length}
 use Rattle.bb_targets.proofs.MarkLaws.{hits, hits_head, hits_join}
 
 -- how many gates and flip-flops drive the bit

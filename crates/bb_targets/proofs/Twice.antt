@@ -7,7 +7,7 @@ use Rattle.std.specs.Option.{option_map, option_or}
 use Rattle.bb_base.specs.Variables.{Entry, Bit, bit_in, bit_of, bit_count, range_width, is_input}
 use Rattle.bb_base.specs.declared.variable.BitName.{BitName}
 use Rattle.bb_base.proofs.Lists.{get_front}
-use Rattle.bb_netlist.specs.Net.{Gate}
+use Rattle.bb_base.specs.Net.{Gate}
 use Rattle.bb_parse.specs.declared.syntax.Module.{Module}
 use Rattle.bb_parse.specs.declared.syntax.Item.{Item}
 use Rattle.bb_parse.specs.declared.syntax.Item.TheVariants as item
@@ -16,10 +16,10 @@ use Rattle.bb_fault.specs.declared.fault.ElabFault.TheVariants.{TwoDrivers}
 use Rattle.bb_fault.specs.Firsts.{first_answer}
 use Rattle.bb_fault.proofs.Parted.{none-first, none-second}
 use Rattle.bb_scope.specs.Variables.{variables}
-use Rattle.bb_width.specs.Parts.{item_fault, bad_part}
-use Rattle.bb_drive.specs.Work.{Work, Clocked}
+use Rattle.bb_scope.specs.Parts.{item_fault, bad_part}
+use Rattle.bb_fault.specs.Work.{Work, Clocked}
 use Rattle.bb_drive.specs.Nets.{made_names, made_count, made_variable, all_variables, bits_from, input_bits, bits_driven, bits_read, has_bit, nets, bit_name, bit_text, undriven, driver_fault}
-use Rattle.bb_gates.specs.Making.{item_made, items_made, work_of}
+use Rattle.bb_scope.specs.Making.{item_made, items_made, work_of}
 use Rattle.bb_targets.specs.Targets.{item_targets, targets, first_twice, twice_fault}
 use Rattle.bb_targets.proofs.MarkLaws.{hits, hits_head, hits_join}
 use Rattle.bb_targets.proofs.Adding.{Adds, drivers}

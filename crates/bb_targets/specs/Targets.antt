@@ -13,7 +13,7 @@ use Rattle.bb_scope.specs.Cells.{Kind, Pin, kind_of, pins_of}
 use Rattle.bb_scope.specs.References.{ref_bits}
 use Rattle.bb_scope.specs.Terminals.{outs_of}
 use Rattle.bb_drive.specs.Nets.{input_bits, bit_text}
-use Rattle.bb_gates.specs.Making.{driven_bits}
+use Rattle.bb_scope.specs.Making.{driven_bits}
 
 -- the bits of the pin that a cell drives
 abbrev pub out_bits : List Entry → Kind → List Pin → List ℕ

@@ -9,7 +9,7 @@ ghost use Rattle.bb_scope.specs.Kinds.{kind_value};
 ghost use Rattle.bb_scope.specs.References.{ref_bits};
 ghost use Rattle.bb_scope.specs.Terminals.{outs_of};
 ghost use Rattle.bb_drive.specs.Nets.{input_bits};
-ghost use Rattle.bb_gates.specs.Making.{driven_bits};
+ghost use Rattle.bb_scope.specs.Making.{driven_bits};
 ghost use Rattle.bb_targets.specs.Marks.{with_mark};
 ghost use Rattle.bb_targets.specs.Targets.{out_bits, cell_targets, item_targets};
 

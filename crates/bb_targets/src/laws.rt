@@ -4,9 +4,9 @@ ghost use Rattle.std.specs.Prelude.{◌≡◌, None, Some};
 ghost use Rattle.bb_fault.specs.declared.fault.ElabFault.{ElabFault};
 ghost use Rattle.bb_parse.specs.declared.syntax.Module.{Module as ModuleValue};
 ghost use Rattle.bb_scope.specs.Variables.{variables};
-ghost use Rattle.bb_width.specs.Parts.{bad_part};
+ghost use Rattle.bb_scope.specs.Parts.{bad_part};
 ghost use Rattle.bb_drive.specs.Nets.{all_variables, driver_fault};
-ghost use Rattle.bb_gates.specs.Making.{work_of};
+ghost use Rattle.bb_scope.specs.Making.{work_of};
 ghost use Rattle.bb_targets.specs.Targets.{twice_fault};
 
 /// A bit of a module's variables that is driven twice is the first fault of drivers that the gates of its items have, where the

@@ -2,19 +2,19 @@
 use Rattle.std.proofs.Common.{◌≡◌, ℕ, ◌+◌, ◌<◌, ◌≤◌, zero, suc, min, List, [], ◌∷◌, length, map, Bool, true, false, not, ◌&&◌, ◌||◌, ◌==◌, if◌then◌else◌, refl, sym, ap, subst, ◌∙◌, arith, eqb-true, Option, Some, None}
 use Rattle.std.proofs.lemmas.Bool.Decides.{nat_tests}
 use Rattle.std.specs.List.{AllByRecursion}
-use Rattle.bb_netlist.specs.Net.{Flop}
-use Rattle.bb_creg.specs.OnBits.{last_of}
-use Rattle.bb_netlist.specs.Run.{Meets}
-use Rattle.bb_creg.specs.OnBits.{shifted, front, feedback_bit, zeros}
-use Rattle.bb_ctl.specs.Controller.{register_word, word_from, word_ahead, low_row, word_rows, ring_rows, ring_rows_from, out_row, last_q, controller}
-use Rattle.bb_ctl.specs.declared.wire.Wire.{Wire}
-use Rattle.bb_ctl.specs.declared.wire.Wire.TheVariants.{Test, Init, So, Done, NotInit, NotTest, Go, NotGo, Parity, Low, Feed, WordNext, Wrap, Phase, PhaseTurned, PhaseNext, Advance, NotAdvance, Ring, RingKept, RingMoved, RingOr, RingNext, NotOver, Live, NotPhase, Running, Shifting}
-use Rattle.bb_gf2.specs.Bits.{picked}
+use Rattle.bb_base.specs.Net.{Flop}
+use Rattle.bb_terms.specs.OnBits.{last_of}
+use Rattle.bb_base.specs.Run.{Meets}
+use Rattle.bb_terms.specs.OnBits.{shifted, front, feedback_bit, zeros}
+use Rattle.bb_terms.specs.Controller.{register_word, word_from, word_ahead, low_row, word_rows, ring_rows, ring_rows_from, out_row, last_q, controller}
+use Rattle.bb_terms.specs.declared.wire.Wire.{Wire}
+use Rattle.bb_terms.specs.declared.wire.Wire.TheVariants.{Test, Init, So, Done, NotInit, NotTest, Go, NotGo, Parity, Low, Feed, WordNext, Wrap, Phase, PhaseTurned, PhaseNext, Advance, NotAdvance, Ring, RingKept, RingMoved, RingOr, RingNext, NotOver, Live, NotPhase, Running, Shifting}
+use Rattle.bb_base.specs.Bits.{picked}
 use Rattle.bb_base.specs.Booleans.{xor, parity_of_bits, some_true}
-use Rattle.bb_rules.specs.Plan.{PlanValue}
+use Rattle.bb_terms.specs.Plan.{PlanValue}
 use Rattle.bb_written.specs.Cells.{word_flops, ring_flops, flops}
 use Rattle.bb_testrun.specs.Control.{Control, control_step, control_start, ControlHolds}
-use Rattle.bb_creg.specs.OnBits.{at_last}
+use Rattle.bb_terms.specs.OnBits.{at_last}
 use Rattle.bb_written.specs.Modes.{bit_or_zero}
 use Rattle.bb_written.specs.Trace.{TakesBit}
 use Rattle.bb_base.proofs.Lists.{all_front, all_back}

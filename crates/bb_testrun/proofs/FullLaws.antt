@@ -1,8 +1,8 @@
 -- A full walk is back control_after all its states.
 use Rattle.std.proofs.Common.{◌≡◌, ℕ, ◌+◌, ◌^◌, ◌<◌, ◌≤◌, ◌==◌, zero, suc, true, false, sym, ap, ◌∙◌, arith}
 use Rattle.std.proofs.lemmas.Bool.Decides.{nat_tests}
-use Rattle.bb_creg.specs.Register.{IsMask, IsFullPeriod}
-use Rattle.bb_creg.specs.OnBits.{bits_after}
+use Rattle.bb_terms.specs.Register.{IsMask, IsFullPeriod}
+use Rattle.bb_terms.specs.OnBits.{bits_after}
 use Rattle.bb_creg.proofs.Ending.{end_is_last, goes_round}
 use Rattle.bb_testrun.specs.Control.{ReturnsAfter}
 

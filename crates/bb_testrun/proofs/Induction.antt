@@ -1,23 +1,23 @@
 -- the induction over all cycles of a test run
 use Rattle.std.proofs.Common.{◌≡◌, ℕ, ◌+◌, ◌*◌, ◌/◌, ◌%◌, ◌<◌, ◌≤◌, zero, suc, min, List, [], ◌∷◌, length, map, Bool, true, false, not, ◌&&◌, ◌==◌, if◌then◌else◌, refl, sym, ap, subst, ◌∙◌, arith, Option, None}
 use Rattle.std.proofs.lemmas.Bool.Decides.{nat_tests}
-use Rattle.bb_netlist.specs.Net.{Netlist}
-use Rattle.bb_netlist.specs.Run.{Meets}
-use Rattle.bb_creg.specs.OnBits.{shifted, next_bits, zeros, bits_after}
-use Rattle.bb_ctl.specs.Controller.{register_word, word_ahead, controller, last_q}
-use Rattle.bb_ctl.specs.Reads.{qs_from}
-use Rattle.bb_ctl.specs.Registers.{registers_from}
-use Rattle.bb_ctl.specs.declared.wire.Wire.{Wire}
-use Rattle.bb_ctl.specs.declared.wire.Wire.TheVariants.{Test, Init, NotTest, Go, Feed, Running, Shifting, Ring, Phase, So, Done}
-use Rattle.bb_gf2.specs.Bits.{picked}
+use Rattle.bb_base.specs.Net.{Netlist}
+use Rattle.bb_base.specs.Run.{Meets}
+use Rattle.bb_terms.specs.OnBits.{shifted, next_bits, zeros, bits_after}
+use Rattle.bb_terms.specs.Controller.{register_word, word_ahead, controller, last_q}
+use Rattle.bb_terms.specs.Reads.{qs_from}
+use Rattle.bb_terms.specs.Registers.{registers_from}
+use Rattle.bb_terms.specs.declared.wire.Wire.{Wire}
+use Rattle.bb_terms.specs.declared.wire.Wire.TheVariants.{Test, Init, NotTest, Go, Feed, Running, Shifting, Ring, Phase, So, Done}
+use Rattle.bb_base.specs.Bits.{picked}
 use Rattle.bb_base.specs.Booleans.{parity_of_bits}
-use Rattle.bb_rules.specs.Kinds.{is_source}
-use Rattle.bb_rules.specs.Plan.{RegisterValue, PlanValue, compacts}
-use Rattle.bb_rules.specs.declared.plan.Cell.{Cell}
+use Rattle.bb_terms.specs.Kinds.{is_source}
+use Rattle.bb_terms.specs.Plan.{RegisterValue, PlanValue, compacts}
+use Rattle.bb_terms.specs.declared.plan.Cell.{Cell}
 use Rattle.bb_written.specs.Cells.{word_flops, ring_flops}
 use Rattle.bb_testrun.specs.Control.{control_after, ControlHolds, ReturnsAfter}
 use Rattle.bb_testrun.specs.Held.{signature_at, run_cycle_of, line_bits, held_by}
-use Rattle.bb_gf2.specs.Parity.{code_of_bits}
+use Rattle.bb_base.specs.Parity.{code_of_bits}
 use Rattle.bb_written.specs.Modes.{is_on, bit_or_zero, EachRegister, PartMeets}
 use Rattle.bb_written.specs.Trace.{TakesBit, IsTestTrace}
 use Rattle.bb_base.proofs.Lists.{all_front, all_back}

@@ -1,18 +1,18 @@
 -- the lines of the written netlist compute the original's segments
 use Rattle.std.proofs.Common.{◌≡◌, ℕ, suc, List, [], ◌∷◌, map, Bool, true, false, ◌&&◌, ◌||◌, ◌==◌, if◌then◌else◌, refl, sym, ap, ◌∙◌}
 use Rattle.std.specs.List.{AllByRecursion, list_any}
-use Rattle.bb_netlist.specs.Net.{Gate, Netlist}
-use Rattle.bb_segment.specs.Function.{Assigns, line_bit}
-use Rattle.bb_segment.specs.Paths.{Start, AtNet}
-use Rattle.bb_ctl.specs.Reads.{read, read_behind, line}
-use Rattle.bb_ctl.specs.declared.wire.Wire.{Wire}
-use Rattle.bb_ctl.specs.declared.wire.Wire.TheVariants.{Kept, Read}
-use Rattle.bb_rules.specs.Kinds.{is_behind}
-use Rattle.bb_rules.specs.Lines.{d_of, is_stop, StartsBehind, IsStartOf}
-use Rattle.bb_rules.specs.Plan.{PlanValue, chain}
-use Rattle.bb_rules.specs.declared.plan.Cell.{Cell}
-use Rattle.bb_rules.specs.declared.kind.Kind.{Kind}
-use Rattle.bb_rules.specs.declared.kind.Kind.TheVariants.{State, Split, Cut, Watch, Output, Input}
+use Rattle.bb_base.specs.Net.{Gate, Netlist}
+use Rattle.bb_terms.specs.Function.{Assigns, line_bit}
+use Rattle.bb_terms.specs.Paths.{Start, AtNet}
+use Rattle.bb_terms.specs.Reads.{read, read_behind, line}
+use Rattle.bb_terms.specs.declared.wire.Wire.{Wire}
+use Rattle.bb_terms.specs.declared.wire.Wire.TheVariants.{Kept, Read}
+use Rattle.bb_terms.specs.Kinds.{is_behind}
+use Rattle.bb_terms.specs.Lines.{d_of, is_stop, StartsBehind, IsStartOf}
+use Rattle.bb_terms.specs.Plan.{PlanValue, chain}
+use Rattle.bb_terms.specs.declared.plan.Cell.{Cell}
+use Rattle.bb_terms.specs.declared.kind.Kind.{Kind}
+use Rattle.bb_terms.specs.declared.kind.Kind.TheVariants.{State, Split, Cut, Watch, Output, Input}
 use Rattle.bb_testrun.specs.Computes.{LinesCompute, ReadsAtStops}
 use Rattle.bb_testrun.specs.Traced.{KeptMeet}
 use Rattle.std.specs.Prelude.{Contains}

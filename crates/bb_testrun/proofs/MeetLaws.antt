@@ -1,12 +1,12 @@
 -- each vector of generating leaves comes in the run cycles
 use Rattle.std.proofs.Common.{◌≡◌, ℕ, ◌≤◌, ◌^◌, length, sym, ap, ◌∙◌}
-use Rattle.bb_netlist.specs.Net.{Netlist}
-use Rattle.bb_gf2.specs.Parity.{code_bit}
-use Rattle.bb_creg.specs.OnBits.{bits_after}
-use Rattle.bb_creg.specs.Register.{IsFullPeriod, state_after}
-use Rattle.bb_rules.specs.Plan.{PlanValue, chain}
+use Rattle.bb_base.specs.Net.{Netlist}
+use Rattle.bb_base.specs.Parity.{code_bit}
+use Rattle.bb_terms.specs.OnBits.{bits_after}
+use Rattle.bb_terms.specs.Register.{IsFullPeriod, state_after}
+use Rattle.bb_terms.specs.Plan.{PlanValue, chain}
 use Rattle.bb_testrun.specs.Control.{ReturnsAfter}
-use Rattle.bb_gf2.specs.Parity.{code_of_bits}
+use Rattle.bb_base.specs.Parity.{code_of_bits}
 use Rattle.bb_testrun.specs.Reading.{MeetsAll}
 use Rattle.bb_gf2.proofs.BitLaws.{code_of_bits-bits}
 use Rattle.bb_creg.proofs.BitSteps.{bits-state}

@@ -1,7 +1,7 @@
 -- what comes out of a chain
 use Rattle.std.proofs.Common.{◌≡◌, ℕ, ◌-◌, ◌<◌, zero, suc, List, [], ◌∷◌, length, get_or, Bool, false, refl, ap, ◌∙◌, arith}
-use Rattle.bb_creg.specs.OnBits.{shifted, zeros}
-use Rattle.bb_creg.specs.OnBits.{last_of}
+use Rattle.bb_terms.specs.OnBits.{shifted, zeros}
+use Rattle.bb_terms.specs.OnBits.{last_of}
 use Rattle.bb_testrun.specs.Held.{shifts}
 use Rattle.bb_testrun.specs.ComesOut.{ComesOut}
 use Rattle.bb_testrun.proofs.Unloading.{shifts_out}

@@ -1,9 +1,9 @@
 -- where the controller stands, by cycle numbers
 use Rattle.std.proofs.Common.{◌≡◌, ℕ, ◌+◌, ◌*◌, ◌<◌, zero, suc, List, Bool, true, false, not, ◌&&◌, if◌then◌else◌, refl, sym, ap, ◌∙◌, subst, arith}
-use Rattle.bb_creg.specs.OnBits.{next_bits, zeros, bits_after}
+use Rattle.bb_terms.specs.OnBits.{next_bits, zeros, bits_after}
 use Rattle.bb_base.specs.Booleans.{xor}
 use Rattle.bb_testrun.specs.Control.{Control, control_step, control_after, ReturnsAfter}
-use Rattle.bb_creg.specs.OnBits.{at_last}
+use Rattle.bb_terms.specs.OnBits.{at_last}
 
 pub record At (c : Control) (xs : List Bool) (late : Bool) (ring : ℕ) : Type 0 where
   pub xs_are : c.xs ≡ xs

@@ -1,25 +1,25 @@
 -- the reads in the run cycles
 use Rattle.std.proofs.Common.{◌≡◌, ℕ, ◌+◌, ◌*◌, ◌<◌, ◌≤◌, suc, List, [], ◌∷◌, ◌++◌, length, map, Bool, true, false, not, ◌&&◌, ◌||◌, ◌==◌, if◌then◌else◌, refl, sym, ap, ◌∙◌, arith, eqb-true, Option, Some, None}
 use Rattle.std.specs.List.{AllByRecursion, flat_map}
-use Rattle.bb_netlist.specs.Net.{Netlist}
-use Rattle.bb_netlist.specs.Run.{Meets}
-use Rattle.bb_creg.specs.OnBits.{bits_after}
-use Rattle.bb_ctl.specs.Controller.{controller}
-use Rattle.bb_ctl.specs.Reads.{q_of, qs_from, q_by, read, read_behind}
-use Rattle.bb_ctl.specs.declared.wire.Wire.{Wire}
-use Rattle.bb_ctl.specs.declared.wire.Wire.TheVariants.{Test, NotTest, First, Kept, Read, Held}
-use Rattle.bb_rules.specs.Kinds.{is_source, is_behind}
-use Rattle.bb_rules.specs.Plan.{RegisterValue, PlanValue, chain, compacts}
-use Rattle.bb_rules.specs.declared.plan.Cell.{Cell}
-use Rattle.bb_rules.specs.declared.kind.Kind.{Kind}
-use Rattle.bb_rules.specs.declared.kind.Kind.TheVariants.{Input, State, Split, Cut, Watch, Output}
+use Rattle.bb_base.specs.Net.{Netlist}
+use Rattle.bb_base.specs.Run.{Meets}
+use Rattle.bb_terms.specs.OnBits.{bits_after}
+use Rattle.bb_terms.specs.Controller.{controller}
+use Rattle.bb_terms.specs.Reads.{q_of, qs_from, q_by, read, read_behind}
+use Rattle.bb_terms.specs.declared.wire.Wire.{Wire}
+use Rattle.bb_terms.specs.declared.wire.Wire.TheVariants.{Test, NotTest, First, Kept, Read, Held}
+use Rattle.bb_terms.specs.Kinds.{is_source, is_behind}
+use Rattle.bb_terms.specs.Plan.{RegisterValue, PlanValue, chain, compacts}
+use Rattle.bb_terms.specs.declared.plan.Cell.{Cell}
+use Rattle.bb_terms.specs.declared.kind.Kind.{Kind}
+use Rattle.bb_terms.specs.declared.kind.Kind.TheVariants.{Input, State, Split, Cut, Watch, Output}
 use Rattle.bb_written.specs.Cells.{cell_rows, rows_of_cells}
 use Rattle.bb_testrun.specs.Control.{ReturnsAfter}
 use Rattle.bb_testrun.specs.Held.{signature_at, run_cycle_of, line_bits, held_by}
-use Rattle.bb_gf2.specs.Parity.{code_of_bits}
+use Rattle.bb_base.specs.Parity.{code_of_bits}
 use Rattle.bb_written.specs.Modes.{EachRegister, PartMeets}
 use Rattle.bb_testrun.specs.Reading.{Generates, ReadsCodes}
-use Rattle.bb_rules.specs.Lines.{source_in, or_later, source_from}
+use Rattle.bb_terms.specs.Lines.{source_in, or_later, source_from}
 use Rattle.bb_written.specs.Trace.{IsTestTrace}
 use Rattle.bb_base.proofs.Lists.{all_front, all_back}
 use Rattle.bb_testrun.proofs.ControlLines.{lines}

@@ -1,16 +1,16 @@
 -- the induction over the test run
 use Rattle.std.proofs.Common.{◌≡◌, ℕ, ◌+◌, suc, List, [], ◌∷◌, ◌++◌, length, map, Bool, true, false, ◌&&◌, refl, ap, subst, ◌∙◌, arith, Option}
 use Rattle.std.specs.List.{AllByRecursion, flat_map}
-use Rattle.bb_netlist.specs.Net.{Flop, Netlist}
-use Rattle.bb_creg.specs.OnBits.{shifted, zeros}
-use Rattle.bb_creg.specs.Signature.{xor_each}
-use Rattle.bb_ctl.specs.Reads.{qs_from}
-use Rattle.bb_ctl.specs.declared.wire.Wire.{Wire}
-use Rattle.bb_ctl.specs.declared.wire.Wire.TheVariants.{First, Latches, Takes, Codes}
+use Rattle.bb_base.specs.Net.{Flop, Netlist}
+use Rattle.bb_terms.specs.OnBits.{shifted, zeros}
+use Rattle.bb_terms.specs.Signature.{xor_each}
+use Rattle.bb_terms.specs.Reads.{qs_from}
+use Rattle.bb_terms.specs.declared.wire.Wire.{Wire}
+use Rattle.bb_terms.specs.declared.wire.Wire.TheVariants.{First, Latches, Takes, Codes}
 use Rattle.bb_base.specs.Booleans.{xor}
-use Rattle.bb_rules.specs.Kinds.{is_source, has_line}
-use Rattle.bb_rules.specs.Plan.{RegisterValue, PlanValue}
-use Rattle.bb_rules.specs.declared.plan.Cell.{Cell}
+use Rattle.bb_terms.specs.Kinds.{is_source, has_line}
+use Rattle.bb_terms.specs.Plan.{RegisterValue, PlanValue}
+use Rattle.bb_terms.specs.declared.plan.Cell.{Cell}
 use Rattle.bb_written.specs.Cells.{cell_flops}
 use Rattle.bb_written.specs.Modes.{taken, z_bit, g_bit, EachRegister, PartMeets}
 use Rattle.bb_written.specs.Trace.{TakesBit}

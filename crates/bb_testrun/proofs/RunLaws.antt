@@ -1,17 +1,17 @@
 -- the laws of the test run
 use Rattle.std.proofs.Common.{◌≡◌, ℕ, ◌+◌, ◌-◌, ◌*◌, ◌≤◌, zero, suc, min, length, Bool, true, false, not, ◌&&◌, ◌==◌, if◌then◌else◌, ap, subst, ◌∙◌, arith, None}
 use Rattle.std.proofs.lemmas.Bool.Decides.{nat_tests}
-use Rattle.bb_netlist.specs.Net.{Netlist}
-use Rattle.bb_creg.specs.OnBits.{last_of}
-use Rattle.bb_netlist.specs.Run.{Meets}
-use Rattle.bb_creg.specs.OnBits.{bits_after}
-use Rattle.bb_ctl.specs.Controller.{controller}
-use Rattle.bb_ctl.specs.Reads.{qs_from}
-use Rattle.bb_ctl.specs.declared.wire.Wire.{Wire}
-use Rattle.bb_ctl.specs.declared.wire.Wire.TheVariants.{Test, Init, Go, Shifting, Ring, Phase, So, Done}
-use Rattle.bb_rules.specs.Plan.{PlanValue, chain}
+use Rattle.bb_base.specs.Net.{Netlist}
+use Rattle.bb_terms.specs.OnBits.{last_of}
+use Rattle.bb_base.specs.Run.{Meets}
+use Rattle.bb_terms.specs.OnBits.{bits_after}
+use Rattle.bb_terms.specs.Controller.{controller}
+use Rattle.bb_terms.specs.Reads.{qs_from}
+use Rattle.bb_terms.specs.declared.wire.Wire.{Wire}
+use Rattle.bb_terms.specs.declared.wire.Wire.TheVariants.{Test, Init, Go, Shifting, Ring, Phase, So, Done}
+use Rattle.bb_terms.specs.Plan.{PlanValue, chain}
 use Rattle.bb_testrun.specs.Control.{Control, control_step, control_after, ReturnsAfter}
-use Rattle.bb_creg.specs.OnBits.{at_last}
+use Rattle.bb_terms.specs.OnBits.{at_last}
 use Rattle.bb_testrun.specs.Held.{unload_cycle_of, HoldsInRun, ShiftsInUnload, GivesOut, WalksInRun, IsOver, BeginsQuiet}
 use Rattle.bb_written.specs.Trace.{IsTestTrace}
 use Rattle.bb_base.proofs.Lists.{all_front}

@@ -1,8 +1,8 @@
 -- a signature grows by one control_step a cycle
 use Rattle.std.proofs.Common.{◌≡◌, zero, suc, List, [], ◌∷◌, ◌++◌, refl, sym, ap, ◌∙◌}
 use Rattle.std.specs.Prelude.{fold}
-use Rattle.bb_creg.specs.OnBits.{zeros}
-use Rattle.bb_creg.specs.Signature.{signature_step}
+use Rattle.bb_terms.specs.OnBits.{zeros}
+use Rattle.bb_terms.specs.Signature.{signature_step}
 use Rattle.bb_testrun.specs.SignatureSoFar.{SignaturesAgree, lines_until}
 
 fold_last : {A B : Type 0} (f : B → A → B) (a : B) (xs : List A) (y : A) → fold f a (xs ++ y ∷ []) ≡ f (fold f a xs) y

@@ -1,19 +1,19 @@
 -- one cycle of each register, by its mode
 use Rattle.std.proofs.Common.{◌≡◌, ℕ, ◌+◌, ◌<◌, ◌≤◌, zero, suc, List, [], ◌∷◌, length, map, Bool, true, false, not, ◌&&◌, ◌||◌, ◌==◌, if◌then◌else◌, refl, sym, ap, ◌∙◌, arith, Option}
 use Rattle.std.proofs.lemmas.Bool.Decides.{nat_tests}
-use Rattle.bb_netlist.specs.Net.{Flop, Netlist}
-use Rattle.bb_creg.specs.OnBits.{shifted, zeros, bits_after}
-use Rattle.bb_ctl.specs.Controller.{word_ahead}
-use Rattle.bb_ctl.specs.Reads.{qs_from}
-use Rattle.bb_ctl.specs.declared.wire.Wire.{Wire}
-use Rattle.bb_ctl.specs.declared.wire.Wire.TheVariants.{NotTest, Running, Shifting, Ring, First, Latches, Takes, Codes}
-use Rattle.bb_gf2.specs.Bits.{picked}
+use Rattle.bb_base.specs.Net.{Flop, Netlist}
+use Rattle.bb_terms.specs.OnBits.{shifted, zeros, bits_after}
+use Rattle.bb_terms.specs.Controller.{word_ahead}
+use Rattle.bb_terms.specs.Reads.{qs_from}
+use Rattle.bb_terms.specs.declared.wire.Wire.{Wire}
+use Rattle.bb_terms.specs.declared.wire.Wire.TheVariants.{NotTest, Running, Shifting, Ring, First, Latches, Takes, Codes}
+use Rattle.bb_base.specs.Bits.{picked}
 use Rattle.bb_base.specs.Booleans.{parity_of_bits, some_true}
-use Rattle.bb_rules.specs.Kinds.{is_source, has_line}
-use Rattle.bb_rules.specs.Plan.{RegisterValue, PlanValue, sessions_of, sessions_from, lists_register, compacts}
+use Rattle.bb_terms.specs.Kinds.{is_source, has_line}
+use Rattle.bb_terms.specs.Plan.{RegisterValue, PlanValue, sessions_of, sessions_from, lists_register, compacts}
 use Rattle.bb_written.specs.Cells.{cell_flops}
 use Rattle.bb_testrun.specs.Held.{signature_at, signature_with, held_by}
-use Rattle.bb_gf2.specs.Parity.{code_of_bits}
+use Rattle.bb_base.specs.Parity.{code_of_bits}
 use Rattle.bb_written.specs.Modes.{z_bit, g_bit, is_on, bit_or_zero, PartMeets}
 use Rattle.bb_written.proofs.CellLines.{modes}
 use Rattle.bb_testrun.proofs.RegisterSteps.{taken_shift, taken_sign, taken_code, taken_none, length_qs, bits_next}

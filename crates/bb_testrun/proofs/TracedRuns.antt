@@ -1,22 +1,22 @@
 -- test runs are added traces
 use Rattle.std.proofs.Common.{◌≡◌, ℕ, ◌+◌, ◌<◌, zero, suc, List, [], ◌∷◌, length, map, Bool, true, false, refl, ◌∙◌, arith, Option, Some, None}
 use Rattle.std.specs.List.{AllByRecursion}
-use Rattle.bb_netlist.specs.Net.{Gate, Netlist}
-use Rattle.bb_segment.specs.Change.{Change, gives_by, by_table}
-use Rattle.bb_netlist.specs.Run.{Meets, at}
-use Rattle.bb_creg.specs.OnBits.{front}
-use Rattle.bb_ctl.specs.Controller.{register_word, word_ahead, low_row, out_row, word_rows, ring_rows, ring_rows_from, controller, last_q}
-use Rattle.bb_ctl.specs.Reads.{q_of, qs_from, read}
-use Rattle.bb_ctl.specs.Registers.{pass_row, carry_row, rows_of_register, registers_from}
-use Rattle.bb_ctl.specs.declared.wire.Wire.{Wire}
-use Rattle.bb_ctl.specs.declared.wire.Wire.TheVariants.{Kept, Test, Init, Code, First}
-use Rattle.bb_gf2.specs.Bits.{picked}
+use Rattle.bb_base.specs.Net.{Gate, Netlist}
+use Rattle.bb_terms.specs.Change.{Change, gives_by, by_table}
+use Rattle.bb_base.specs.Run.{Meets, at}
+use Rattle.bb_terms.specs.OnBits.{front}
+use Rattle.bb_terms.specs.Controller.{register_word, word_ahead, low_row, out_row, word_rows, ring_rows, ring_rows_from, controller, last_q}
+use Rattle.bb_terms.specs.Reads.{q_of, qs_from, read}
+use Rattle.bb_terms.specs.Registers.{pass_row, carry_row, rows_of_register, registers_from}
+use Rattle.bb_terms.specs.declared.wire.Wire.{Wire}
+use Rattle.bb_terms.specs.declared.wire.Wire.TheVariants.{Kept, Test, Init, Code, First}
+use Rattle.bb_base.specs.Bits.{picked}
 use Rattle.bb_base.specs.Operators.{op_gives}
-use Rattle.bb_netlist.specs.Run.{MeetsBy, IsRunBy}
-use Rattle.bb_rules.specs.Plan.{RegisterValue, PlanValue, sessions_of}
-use Rattle.bb_rules.specs.declared.plan.Cell.{Cell}
-use Rattle.bb_rules.specs.declared.kind.Kind.{Kind}
-use Rattle.bb_rules.specs.declared.kind.Kind.TheVariants.{Input, State, Split, Cut, Watch, Output}
+use Rattle.bb_base.specs.Run.{MeetsBy, IsRunBy}
+use Rattle.bb_terms.specs.Plan.{RegisterValue, PlanValue, sessions_of}
+use Rattle.bb_terms.specs.declared.plan.Cell.{Cell}
+use Rattle.bb_terms.specs.declared.kind.Kind.{Kind}
+use Rattle.bb_terms.specs.declared.kind.Kind.TheVariants.{Input, State, Split, Cut, Watch, Output}
 use Rattle.bb_written.specs.Cells.{xor_row, cell_rows, rows_of_cells, all_cells_from, flops}
 use Rattle.bb_written.specs.Trace.{TakesBit}
 use Rattle.bb_testrun.specs.Traced.{on_wires, IsTestOf, TestsAreTraces}

@@ -1,16 +1,16 @@
 -- the chain as one list of bits, and its unloading
 use Rattle.std.proofs.Common.{◌≡◌, ℕ, ◌+◌, ◌*◌, ◌<◌, ◌≤◌, zero, suc, List, [], ◌∷◌, ◌++◌, length, map, Bool, true, false, not, ◌&&◌, refl, sym, ap, subst, ◌∙◌, arith, Option, Some, None}
 use Rattle.std.specs.List.{flat_map}
-use Rattle.bb_netlist.specs.Net.{Netlist}
-use Rattle.bb_creg.specs.OnBits.{last_of}
-use Rattle.bb_netlist.specs.Run.{Meets}
-use Rattle.bb_creg.specs.OnBits.{shifted, zeros, bits_after}
-use Rattle.bb_ctl.specs.Controller.{controller}
-use Rattle.bb_ctl.specs.Reads.{q_of, qs_from}
-use Rattle.bb_ctl.specs.declared.wire.Wire.{Wire}
-use Rattle.bb_ctl.specs.declared.wire.Wire.TheVariants.{Test, Init, Go, Running, Shifting, Ring, Phase}
-use Rattle.bb_rules.specs.Plan.{RegisterValue, PlanValue, chain}
-use Rattle.bb_rules.specs.declared.plan.Cell.{Cell}
+use Rattle.bb_base.specs.Net.{Netlist}
+use Rattle.bb_terms.specs.OnBits.{last_of}
+use Rattle.bb_base.specs.Run.{Meets}
+use Rattle.bb_terms.specs.OnBits.{shifted, zeros, bits_after}
+use Rattle.bb_terms.specs.Controller.{controller}
+use Rattle.bb_terms.specs.Reads.{q_of, qs_from}
+use Rattle.bb_terms.specs.declared.wire.Wire.{Wire}
+use Rattle.bb_terms.specs.declared.wire.Wire.TheVariants.{Test, Init, Go, Running, Shifting, Ring, Phase}
+use Rattle.bb_terms.specs.Plan.{RegisterValue, PlanValue, chain}
+use Rattle.bb_terms.specs.declared.plan.Cell.{Cell}
 use Rattle.bb_testrun.specs.Control.{ReturnsAfter}
 use Rattle.bb_testrun.specs.Held.{run_cycle_of, unload_cycle_of, held_by, shifts, held_from}
 use Rattle.bb_written.specs.Modes.{bit_or_zero, EachRegister, PartMeets}

@@ -1,6 +1,6 @@
 -- What comes out of a chain: its last bit first, and 0 in the end.
 use Rattle.std.specs.Prelude.{◌≡◌, ℕ, ◌-◌, ◌<◌, ◌≤◌, Bool, false, List, length, slice_index_or}
-use Rattle.bb_creg.specs.OnBits.{last_of}
+use Rattle.bb_terms.specs.OnBits.{last_of}
 use Rattle.bb_testrun.specs.Held.{shifts}
 
 pub record ComesOut (j : ℕ) (xs : List Bool) : Type 0 where

@@ -1,15 +1,15 @@
 -- The lines of the written netlist compute the original's segments, whatever the original's gates mean.
 use Rattle.std.specs.Prelude.{◌≡◌, ℕ, ◌&&◌, ◌==◌, Bool, false, List}
 use Rattle.std.specs.List.{list_any}
-use Rattle.bb_netlist.specs.Net.{Gate, Netlist}
-use Rattle.bb_segment.specs.Paths.{Start}
-use Rattle.bb_segment.specs.Function.{IsBitOf}
-use Rattle.bb_rules.specs.declared.plan.Cell.{Cell}
-use Rattle.bb_rules.specs.Kinds.{is_behind}
-use Rattle.bb_rules.specs.Plan.{PlanValue, chain}
-use Rattle.bb_rules.specs.Lines.{IsStart, is_stop}
-use Rattle.bb_ctl.specs.declared.wire.Wire.{Wire}
-use Rattle.bb_ctl.specs.Reads.{read, line}
+use Rattle.bb_base.specs.Net.{Gate, Netlist}
+use Rattle.bb_terms.specs.Paths.{Start}
+use Rattle.bb_terms.specs.Function.{IsBitOf}
+use Rattle.bb_terms.specs.declared.plan.Cell.{Cell}
+use Rattle.bb_terms.specs.Kinds.{is_behind}
+use Rattle.bb_terms.specs.Plan.{PlanValue, chain}
+use Rattle.bb_terms.specs.Lines.{IsStart, is_stop}
+use Rattle.bb_terms.specs.declared.wire.Wire.{Wire}
+use Rattle.bb_terms.specs.Reads.{read, line}
 use Rattle.bb_testrun.specs.Traced.{KeptMeet}
 
 -- logic reads behind cells at stops alone

@@ -1,11 +1,11 @@
 -- The controller, by bits and then by cycle numbers.
 use Rattle.std.specs.Prelude.{◌≡◌, ℕ, ◌<◌, ◌≤◌, zero, suc, min, Bool, true, false, ◌&&◌, List, map, length, ◌==◌, if◌then◌else◌}
-use Rattle.bb_creg.specs.OnBits.{next_bits, zeros, bits_after, at_last}
-use Rattle.bb_ctl.specs.Controller.{register_word}
-use Rattle.bb_ctl.specs.declared.wire.Wire.{Wire}
-use Rattle.bb_ctl.specs.declared.wire.Wire.TheVariants.{Phase, Ring}
+use Rattle.bb_terms.specs.OnBits.{next_bits, zeros, bits_after, at_last}
+use Rattle.bb_terms.specs.Controller.{register_word}
+use Rattle.bb_terms.specs.declared.wire.Wire.{Wire}
+use Rattle.bb_terms.specs.declared.wire.Wire.TheVariants.{Phase, Ring}
 use Rattle.bb_base.specs.Booleans.{xor}
-use Rattle.bb_rules.specs.Plan.{PlanValue}
+use Rattle.bb_terms.specs.Plan.{PlanValue}
 
 pub record Control : Type 0 where
   pub xs : List Bool

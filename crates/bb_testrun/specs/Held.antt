@@ -1,17 +1,17 @@
 -- The test run: what stands in the registers in each cycle.
 use Rattle.std.specs.Prelude.{◌≡◌, ℕ, ◌+◌, ◌*◌, ◌<◌, ◌≤◌, zero, suc, Bool, true, false, ◌&&◌, List, [], ◌∷◌, ◌++◌, length, map, if◌then◌else◌, None}
-use Rattle.bb_netlist.specs.Net.{Netlist}
-use Rattle.bb_creg.specs.OnBits.{last_of}
-use Rattle.bb_creg.specs.OnBits.{shifted, zeros, bits_after}
-use Rattle.bb_ctl.specs.Controller.{register_word}
-use Rattle.bb_ctl.specs.Reads.{qs_from}
-use Rattle.bb_ctl.specs.declared.wire.Wire.{Wire}
-use Rattle.bb_ctl.specs.declared.wire.Wire.TheVariants.{So, Done, Running, Shifting}
-use Rattle.bb_rules.specs.Kinds.{has_line, is_source}
-use Rattle.bb_rules.specs.Plan.{RegisterValue, PlanValue, chain, compacts}
-use Rattle.bb_rules.specs.declared.plan.Cell.{Cell}
-use Rattle.bb_gf2.specs.Parity.{code_of_bits}
-use Rattle.bb_creg.specs.Signature.{signature_step}
+use Rattle.bb_base.specs.Net.{Netlist}
+use Rattle.bb_terms.specs.OnBits.{last_of}
+use Rattle.bb_terms.specs.OnBits.{shifted, zeros, bits_after}
+use Rattle.bb_terms.specs.Controller.{register_word}
+use Rattle.bb_terms.specs.Reads.{qs_from}
+use Rattle.bb_terms.specs.declared.wire.Wire.{Wire}
+use Rattle.bb_terms.specs.declared.wire.Wire.TheVariants.{So, Done, Running, Shifting}
+use Rattle.bb_terms.specs.Kinds.{has_line, is_source}
+use Rattle.bb_terms.specs.Plan.{RegisterValue, PlanValue, chain, compacts}
+use Rattle.bb_terms.specs.declared.plan.Cell.{Cell}
+use Rattle.bb_base.specs.Parity.{code_of_bits}
+use Rattle.bb_terms.specs.Signature.{signature_step}
 use Rattle.bb_written.specs.Modes.{z_bit, EachRegister}
 
 -- one control_step of a signature register, its lines first

@@ -1,17 +1,17 @@
 -- Each vector of a segment's leaves comes in the run cycles.
 use Rattle.std.specs.Prelude.{◌≡◌, ℕ, ◌<◌, ◌^◌, slice_index, Bool, false, ◌&&◌, ◌==◌, List, [], ◌∷◌, length, map, Some}
 use Rattle.std.specs.List.{list_any}
-use Rattle.bb_netlist.specs.Net.{Netlist}
-use Rattle.bb_gf2.specs.Dual.{AreDuals}
-use Rattle.bb_creg.specs.OnBits.{bits_after}
-use Rattle.bb_ctl.specs.Reads.{read}
-use Rattle.bb_ctl.specs.declared.wire.Wire.{Wire}
-use Rattle.bb_rules.specs.Kinds.{is_behind}
-use Rattle.bb_rules.specs.Lines.{source_of}
-use Rattle.bb_rules.specs.Plan.{PlanValue, chain, compacts}
-use Rattle.bb_rules.specs.declared.plan.Cell.{Cell}
+use Rattle.bb_base.specs.Net.{Netlist}
+use Rattle.bb_base.specs.Dual.{AreDuals}
+use Rattle.bb_terms.specs.OnBits.{bits_after}
+use Rattle.bb_terms.specs.Reads.{read}
+use Rattle.bb_terms.specs.declared.wire.Wire.{Wire}
+use Rattle.bb_terms.specs.Kinds.{is_behind}
+use Rattle.bb_terms.specs.Lines.{source_of}
+use Rattle.bb_terms.specs.Plan.{PlanValue, chain, compacts}
+use Rattle.bb_terms.specs.declared.plan.Cell.{Cell}
 use Rattle.bb_testrun.specs.Held.{run_cycle_of}
-use Rattle.bb_gf2.specs.Parity.{code_of_bits}
+use Rattle.bb_base.specs.Parity.{code_of_bits}
 use Rattle.bb_written.specs.Trace.{IsTestTrace}
 
 -- net n has a source cell with this column, in a register that generates in session s

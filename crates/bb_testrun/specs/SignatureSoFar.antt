@@ -1,6 +1,6 @@
 -- A signature cycle by cycle is that of the list of all cycles.
 use Rattle.std.specs.Prelude.{◌≡◌, ℕ, zero, suc, Bool, List, [], ◌∷◌, ◌++◌}
-use Rattle.bb_creg.specs.Signature.{signature}
+use Rattle.bb_terms.specs.Signature.{signature}
 use Rattle.bb_testrun.specs.Held.{signature_at}
 
 -- what comes in the first so many cycles

@@ -1,14 +1,14 @@
 -- Changed machines, and test runs of the written netlist.
 use Rattle.std.specs.Prelude.{◌≡◌, ℕ, ◌<◌, Bool, true, false, List, [], ◌∷◌, map, length, None}
 use Rattle.std.specs.List.{AllByRecursion}
-use Rattle.bb_netlist.specs.Net.{Gate, Netlist}
-use Rattle.bb_ctl.specs.Reads.{read}
-use Rattle.bb_segment.specs.Change.{Change, gives_by}
-use Rattle.bb_netlist.specs.Run.{at}
-use Rattle.bb_ctl.specs.declared.wire.Wire.{Wire}
-use Rattle.bb_ctl.specs.declared.wire.Wire.TheVariants.{Kept, Test, Init}
-use Rattle.bb_netlist.specs.Run.{IsRunBy}
-use Rattle.bb_rules.specs.Plan.{PlanValue}
+use Rattle.bb_base.specs.Net.{Gate, Netlist}
+use Rattle.bb_terms.specs.Reads.{read}
+use Rattle.bb_terms.specs.Change.{Change, gives_by}
+use Rattle.bb_base.specs.Run.{at}
+use Rattle.bb_terms.specs.declared.wire.Wire.{Wire}
+use Rattle.bb_terms.specs.declared.wire.Wire.TheVariants.{Kept, Test, Init}
+use Rattle.bb_base.specs.Run.{IsRunBy}
+use Rattle.bb_terms.specs.Plan.{PlanValue}
 use Rattle.bb_written.specs.Trace.{IsTestTrace}
 use Rattle.bb_written.specs.Written.{written_netlist}
 

@@ -1,10 +1,10 @@
 //! Laws, as contracts of functions without a body.
 
 ghost use Rattle.std.specs.Prelude.{◌≤◌, ◌^◌, ℕ, Bool, List, length};
-ghost use Rattle.bb_netlist.specs.Net.{Netlist};
-ghost use Rattle.bb_creg.specs.Register.{IsMask, IsFullPeriod};
-ghost use Rattle.bb_rules.specs.Plan.{PlanValue, chain};
-ghost use Rattle.bb_ctl.specs.declared.wire.Wire.{Wire};
+ghost use Rattle.bb_base.specs.Net.{Netlist};
+ghost use Rattle.bb_terms.specs.Register.{IsMask, IsFullPeriod};
+ghost use Rattle.bb_terms.specs.Plan.{PlanValue, chain};
+ghost use Rattle.bb_terms.specs.declared.wire.Wire.{Wire};
 ghost use Rattle.bb_testrun.specs.Traced.{TestsAreTraces};
 ghost use Rattle.bb_testrun.specs.ComesOut.{ComesOut};
 ghost use Rattle.bb_testrun.specs.Computes.{LinesCompute};

@@ -2,10 +2,10 @@
 use Rattle.std.proofs.Common.{◌≡◌, ◌≤◌, ℕ, List, ◌++◌, length, codes, sym, subst}
 use Rattle.bb_edge.specs.Told.{Told, Held}
 use Rattle.bb_base.specs.Variables.{bit_count}
-use Rattle.bb_net.specs.Named.{Named, IsNamed}
+use Rattle.bb_base.specs.Named.{Named, IsNamed}
 use Rattle.bb_words.specs.declared.command.Settings.{Settings}
 use Rattle.bb_words.specs.Commands.{Check}
-use Rattle.bb_ready.specs.Ready.{IsReady}
+use Rattle.bb_named.specs.Ready.{IsReady}
 use Rattle.bb_make.specs.Artifacts.{ArtifactsValue, AreArtifacts}
 use Rattle.bb_audit.specs.Audited.{Audited}
 use Rattle.bb_audit.specs.Passing.{AuditPasses}

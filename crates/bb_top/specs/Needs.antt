@@ -1,8 +1,8 @@
 -- What a command needs to be done, and what stands against it, by what the files hold.
 use Rattle.std.specs.Prelude.{◌≡◌, ℕ, ◌≤◌, List, length}
 use Rattle.bb_edge.specs.Told.{Told, Held}
-use Rattle.bb_netlist.specs.Order.{IsOrder}
-use Rattle.bb_net.specs.Named.{Named}
+use Rattle.bb_base.specs.Order.{IsOrder}
+use Rattle.bb_base.specs.Named.{Named}
 use Rattle.bb_words.specs.declared.command.Settings.{Settings}
 use Rattle.bb_words.specs.Commands.{CommandValue, Compile, Check, Sample, names_read}
 use Rattle.bb_choose.specs.Enough.{IsEnough}

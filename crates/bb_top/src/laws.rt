@@ -13,8 +13,8 @@ ghost use Rattle.bb_top.specs.Needs.{HasNeeds};
 ghost use Rattle.bb_top.specs.Checked.{texts_with, AreShort, AreTold};
 
 use bb_check::audit_is_enough;
+use bb_named::read_netlists_are_ready;
 use bb_passing::made_files_pass;
-use bb_ready::read_netlists_are_ready;
 
 /// What `compile` makes of a text passes beside it, and what `sample` makes passes beside the sample's own text. So a `check` of files
 /// that hold it has what it needs, and nothing is refused.

@@ -8,15 +8,15 @@ use Rattle.bb_base.specs.declared.variable.BitName.{BitName}
 use Rattle.bb_base.specs.Variables.{Entry, bit_at, bit_eq, is_input, is_output, is_port, range_width, places_but, clock_place, data_bits, role_bits, ports_of}
 use Rattle.bb_base.proofs.Contained.{there, to_all, place_of}
 use Rattle.bb_base.proofs.Lists.{all_join, all_front, all_back, all_map_back, get_front, get_back}
-use Rattle.bb_netlist.specs.Net.{Gate, Flop, driven}
-use Rattle.bb_net.specs.Named.{Named, IsNamed, name_of_net}
+use Rattle.bb_base.specs.Net.{Gate, Flop, driven}
+use Rattle.bb_base.specs.Named.{Named, IsNamed, name_of_net}
 use Rattle.bb_net.specs.Sites.{site_in, site_of_bit}
 use Rattle.bb_net.proofs.Renaming.{OfAllNets, nets_below}
-use Rattle.bb_rules.specs.Plan.{PlanValue}
-use Rattle.bb_rules.specs.Valid.{IsValidPlan}
-use Rattle.bb_ctl.specs.declared.wire.Wire.{Wire}
-use Rattle.bb_ctl.specs.declared.wire.Wire.TheVariants.{Kept, Test, Init, So, Done}
-use Rattle.bb_ctl.specs.Wires.{symbol_name, IsAdded}
+use Rattle.bb_terms.specs.Plan.{PlanValue}
+use Rattle.bb_terms.specs.Valid.{IsValidPlan}
+use Rattle.bb_terms.specs.declared.wire.Wire.{Wire}
+use Rattle.bb_terms.specs.declared.wire.Wire.TheVariants.{Kept, Test, Init, So, Done}
+use Rattle.bb_terms.specs.Wires.{symbol_name, IsAdded}
 use Rattle.bb_written.specs.Cells.{flops}
 use Rattle.bb_written.specs.Written.{scalar_site, wire_site, written_gate, test_gates, written_netlist, is_inner, inner_wires, inner_entry, added_clock, added_ports, written_variables}
 use Rattle.bb_normal.proofs.Numbered.{IsNumbered}

@@ -5,22 +5,22 @@ use Rattle.std.specs.List.{AllByRecursion}
 use Rattle.bb_base.specs.Operators.{IsArity}
 use Rattle.bb_base.proofs.Contained.{to_all, both_all}
 use Rattle.bb_base.proofs.Lists.{all_front, all_back, all_join, all_map, length_map}
-use Rattle.bb_netlist.specs.Net.{Gate, Flop, Netlist, driven, HasArity}
-use Rattle.bb_net.specs.Named.{Named, IsNamed}
-use Rattle.bb_rules.specs.declared.plan.Cell.{Cell}
-use Rattle.bb_rules.specs.declared.kind.Kind.{Kind}
-use Rattle.bb_rules.specs.declared.kind.Kind.TheVariants.{Input, State, Split, Cut, Watch, Output}
-use Rattle.bb_rules.specs.Kinds.{is_source, has_line, is_behind}
-use Rattle.bb_rules.specs.Plan.{PlanValue, RegisterValue, chain}
-use Rattle.bb_rules.specs.Valid.{IsValidPlan}
-use Rattle.bb_gf2.specs.Bits.{picked}
+use Rattle.bb_base.specs.Net.{Gate, Flop, Netlist, driven, HasArity}
+use Rattle.bb_base.specs.Named.{Named, IsNamed}
+use Rattle.bb_terms.specs.declared.plan.Cell.{Cell}
+use Rattle.bb_terms.specs.declared.kind.Kind.{Kind}
+use Rattle.bb_terms.specs.declared.kind.Kind.TheVariants.{Input, State, Split, Cut, Watch, Output}
+use Rattle.bb_terms.specs.Kinds.{is_source, has_line, is_behind}
+use Rattle.bb_terms.specs.Plan.{PlanValue, RegisterValue, chain}
+use Rattle.bb_terms.specs.Valid.{IsValidPlan}
+use Rattle.bb_base.specs.Bits.{picked}
 use Rattle.bb_base.specs.declared.operator.Op.TheVariants.{And, Or, Xor}
-use Rattle.bb_ctl.specs.declared.wire.Wire.{Wire}
-use Rattle.bb_ctl.specs.declared.wire.Wire.TheVariants.{Kept, Test, NotTest, Latches, Takes, Codes, First, Line, Chain, Code, Coded, Next, InTest, InNormal, Read, Held}
-use Rattle.bb_ctl.specs.Controller.{gate_row, word_ahead}
-use Rattle.bb_ctl.specs.Reads.{q_of, read, line}
-use Rattle.bb_ctl.specs.Registers.{control_rows}
-use Rattle.bb_ctl.specs.Numbering.{wires_in, HasWire, HasDistinctNets}
+use Rattle.bb_terms.specs.declared.wire.Wire.{Wire}
+use Rattle.bb_terms.specs.declared.wire.Wire.TheVariants.{Kept, Test, NotTest, Latches, Takes, Codes, First, Line, Chain, Code, Coded, Next, InTest, InNormal, Read, Held}
+use Rattle.bb_terms.specs.Controller.{gate_row, word_ahead}
+use Rattle.bb_terms.specs.Reads.{q_of, read, line}
+use Rattle.bb_terms.specs.Registers.{control_rows}
+use Rattle.bb_terms.specs.Numbering.{wires_in, HasWire, HasDistinctNets}
 use Rattle.bb_written.specs.Cells.{when, xor_row, next_terms, cell_rows, rows_of_cells, all_cells_from, flops}
 use Rattle.bb_written.specs.Written.{test_gates, written_gate, written_netlist}
 use Rattle.bb_written.proofs.Rising.{q_in}

@@ -4,17 +4,17 @@ use Rattle.std.specs.List.{flat_map, sum_by, range_with_len}
 use Rattle.std.proofs.lemmas.List.Elements.{filter-append}
 use Rattle.std.proofs.lemmas.List.Sums.{sum_by-cons, sum_by-append}
 use Rattle.bb_base.proofs.Lists.{map_join}
-use Rattle.bb_netlist.specs.Net.{Gate, Flop, Netlist}
-use Rattle.bb_creg.specs.OnBits.{front, last_of}
-use Rattle.bb_rules.specs.declared.plan.Cell.{Cell}
-use Rattle.bb_rules.specs.declared.kind.Kind.{Kind}
-use Rattle.bb_rules.specs.declared.kind.Kind.TheVariants.{Input, State, Split, Cut, Watch, Output}
-use Rattle.bb_rules.specs.Plan.{PlanValue, RegisterValue, chain, sessions_of}
-use Rattle.bb_ctl.specs.declared.wire.Wire.{Wire}
-use Rattle.bb_ctl.specs.declared.wire.Wire.TheVariants.{Test, Done, Parity, Feed, Phase, PhaseNext, NotOver, Live, NotPhase, Running, Shifting, First}
-use Rattle.bb_ctl.specs.Reads.{q_by, q_of, qs_from}
-use Rattle.bb_ctl.specs.Controller.{word_ahead, register_word, word_rows, start_rows, feed_rows, phase_rows, ring_rows, ring_rows_from, cycle_rows, out_row, last_q, controller}
-use Rattle.bb_ctl.specs.Registers.{rows_of_register, registers_from}
+use Rattle.bb_base.specs.Net.{Gate, Flop, Netlist}
+use Rattle.bb_terms.specs.OnBits.{front, last_of}
+use Rattle.bb_terms.specs.declared.plan.Cell.{Cell}
+use Rattle.bb_terms.specs.declared.kind.Kind.{Kind}
+use Rattle.bb_terms.specs.declared.kind.Kind.TheVariants.{Input, State, Split, Cut, Watch, Output}
+use Rattle.bb_terms.specs.Plan.{PlanValue, RegisterValue, chain, sessions_of}
+use Rattle.bb_terms.specs.declared.wire.Wire.{Wire}
+use Rattle.bb_terms.specs.declared.wire.Wire.TheVariants.{Test, Done, Parity, Feed, Phase, PhaseNext, NotOver, Live, NotPhase, Running, Shifting, First}
+use Rattle.bb_terms.specs.Reads.{q_by, q_of, qs_from}
+use Rattle.bb_terms.specs.Controller.{word_ahead, register_word, word_rows, start_rows, feed_rows, phase_rows, ring_rows, ring_rows_from, cycle_rows, out_row, last_q, controller}
+use Rattle.bb_terms.specs.Registers.{rows_of_register, registers_from}
 use Rattle.bb_written.specs.Cells.{cell_rows, rows_of_cells, all_cells_from, word_flops, ring_flops, cell_flops, flop, flops}
 use Rattle.bb_written.specs.Written.{test_gates, inner_wires, is_inner}
 use Rattle.bb_written.proofs.Rising.{out_of, q_in, low_out, so_out, cell_outs, outs_of_cell}

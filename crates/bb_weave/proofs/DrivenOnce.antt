@@ -8,18 +8,18 @@ use Rattle.bb_base.specs.Variables.{IsBit, StandsBefore, bit_at, bit_count}
 use Rattle.bb_base.proofs.Contained.{here, there, either, none_in, of_all, to_all, contains_map, place_of, contains_at}
 use Rattle.bb_base.proofs.Distinct.{Distinct, distinct_map, one_place}
 use Rattle.bb_base.proofs.Lists.{all_front, all_map, get_some}
-use Rattle.bb_netlist.specs.Net.{driven, reads, times}
-use Rattle.bb_netlist.proofs.GateLemmas.{stands_once}
-use Rattle.bb_netlist.proofs.Renamed.{driven_renamed}
-use Rattle.bb_netlist.proofs.TimesLemmas.{times_head}
+use Rattle.bb_base.specs.Net.{driven, reads, times}
+use Rattle.bb_base.proofs.GateLemmas.{stands_once}
+use Rattle.bb_base.proofs.Renamed.{driven_renamed}
+use Rattle.bb_base.proofs.TimesLemmas.{times_head}
 use Rattle.std.proofs.lemmas.Option.{get_or_from_slice_get}
 use Rattle.std.proofs.lemmas.List.Elements.{All-get_or}
-use Rattle.bb_net.specs.Named.{Named, IsNamed, name_of_net}
+use Rattle.bb_base.specs.Named.{Named, IsNamed, name_of_net}
 use Rattle.bb_net.specs.Sites.{sited, site_of, site_of_bit}
 use Rattle.bb_net.proofs.SiteLemmas.{one_site}
-use Rattle.bb_rules.specs.Plan.{PlanValue}
-use Rattle.bb_rules.specs.Valid.{IsValidPlan}
-use Rattle.bb_ctl.specs.declared.wire.Wire.{Wire}
+use Rattle.bb_terms.specs.Plan.{PlanValue}
+use Rattle.bb_terms.specs.Valid.{IsValidPlan}
+use Rattle.bb_terms.specs.declared.wire.Wire.{Wire}
 use Rattle.bb_written.specs.Written.{wire_site, written_netlist, written_variables, written}
 use Rattle.bb_ctl.specs.OwnNames.{HasOwnNames}
 use Rattle.bb_normal.proofs.Standing.{written_sites_differ}

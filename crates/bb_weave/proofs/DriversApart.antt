@@ -6,20 +6,20 @@ use Rattle.std.specs.List.{AllByRecursion}
 use Rattle.bb_base.proofs.Contained.{of_all, to_all, by_place, contains_map, contains_at}
 use Rattle.bb_base.proofs.Distinct.{Distinct, distinct_map}
 use Rattle.bb_base.proofs.Lists.{all_join, all_front, all_back, map_join}
-use Rattle.bb_netlist.specs.Net.{Gate, Flop, Netlist, IsNetlist, driven}
-use Rattle.bb_netlist.proofs.GateLemmas.{driven_distinct}
-use Rattle.bb_rules.specs.declared.plan.Cell.{Cell}
-use Rattle.bb_rules.specs.declared.kind.Kind.{Kind}
-use Rattle.bb_rules.specs.declared.kind.Kind.TheVariants.{Input, State, Split, Cut, Watch, Output}
-use Rattle.bb_rules.specs.Kinds.{is_source, is_flop}
-use Rattle.bb_rules.specs.Plan.{PlanValue, chain}
-use Rattle.bb_rules.specs.Rules.{Apart, Kinds, MayStand, IsQ, meet}
-use Rattle.bb_rules.specs.Valid.{IsValidPlan}
-use Rattle.bb_ctl.specs.declared.wire.Wire.{Wire}
-use Rattle.bb_ctl.specs.declared.wire.Wire.TheVariants.{Kept, Test, Init, Phase, PhaseNext}
-use Rattle.bb_ctl.specs.Numbering.{kept_of}
-use Rattle.bb_ctl.specs.Reads.{q_by}
-use Rattle.bb_ctl.specs.Wires.{IsAdded}
+use Rattle.bb_base.specs.Net.{Gate, Flop, Netlist, IsNetlist, driven}
+use Rattle.bb_base.proofs.GateLemmas.{driven_distinct}
+use Rattle.bb_terms.specs.declared.plan.Cell.{Cell}
+use Rattle.bb_terms.specs.declared.kind.Kind.{Kind}
+use Rattle.bb_terms.specs.declared.kind.Kind.TheVariants.{Input, State, Split, Cut, Watch, Output}
+use Rattle.bb_terms.specs.Kinds.{is_source, is_flop}
+use Rattle.bb_terms.specs.Plan.{PlanValue, chain}
+use Rattle.bb_terms.specs.Rules.{Apart, Kinds, MayStand, IsQ, meet}
+use Rattle.bb_terms.specs.Valid.{IsValidPlan}
+use Rattle.bb_terms.specs.declared.wire.Wire.{Wire}
+use Rattle.bb_terms.specs.declared.wire.Wire.TheVariants.{Kept, Test, Init, Phase, PhaseNext}
+use Rattle.bb_terms.specs.Numbering.{kept_of}
+use Rattle.bb_terms.specs.Reads.{q_by}
+use Rattle.bb_terms.specs.Wires.{IsAdded}
 use Rattle.bb_ctl.proofs.SymbolNames.{added_is_new}
 use Rattle.bb_written.specs.Cells.{flop, word_flops, ring_flops, cell_flops, flops}
 use Rattle.bb_written.specs.Written.{test_gates, written_gate, written_netlist}

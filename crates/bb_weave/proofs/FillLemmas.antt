@@ -2,11 +2,11 @@
 use Rattle.std.proofs.Common.{arith, ◌≡◌, ℕ, ◌+◌, List, [], ◌∷◌, ◌++◌, map, length, length-append, append_assoc, sym, ap, subst, ◌∙◌}
 use Rattle.std.specs.List.{AllByRecursion}
 use Rattle.bb_base.proofs.Lists.{map_join, length_map}
-use Rattle.bb_netlist.specs.Net.{Gate, Flop, renamed_gate, renamed_flop}
-use Rattle.bb_net.specs.Named.{Named}
-use Rattle.bb_net.specs.Building.{with_gates, with_flops}
-use Rattle.bb_ctl.specs.declared.wire.Wire.{Wire}
-use Rattle.bb_ctl.specs.Numbering.{net_at, HasWire, HasDistinctNets}
+use Rattle.bb_base.specs.Net.{Gate, Flop, renamed_gate, renamed_flop}
+use Rattle.bb_base.specs.Named.{Named}
+use Rattle.bb_base.specs.Building.{with_gates, with_flops}
+use Rattle.bb_terms.specs.declared.wire.Wire.{Wire}
+use Rattle.bb_terms.specs.Numbering.{net_at, HasWire, HasDistinctNets}
 use Rattle.bb_ctl.proofs.NetLemmas.{still_distinct, still_stands, all_still_stand}
 use Rattle.bb_lay.specs.Laying.{HasBothWires}
 

@@ -1,12 +1,12 @@
 -- A builder with all variables, nets, gates and flip-flops of the written netlist.
 use Rattle.std.proofs.Common.{◌≡◌, ℕ, List, map, Contains}
 use Rattle.bb_base.specs.Variables.{ports_of}
-use Rattle.bb_netlist.specs.Net.{renamed_gate, renamed_flop, driven}
-use Rattle.bb_net.specs.Named.{Named, IsConsistent}
+use Rattle.bb_base.specs.Net.{renamed_gate, renamed_flop, driven}
+use Rattle.bb_base.specs.Named.{Named, IsConsistent}
 use Rattle.bb_net.specs.Sites.{site_of}
-use Rattle.bb_rules.specs.Plan.{PlanValue}
-use Rattle.bb_ctl.specs.declared.wire.Wire.{Wire}
-use Rattle.bb_ctl.specs.Numbering.{HasWire, net_at}
+use Rattle.bb_terms.specs.Plan.{PlanValue}
+use Rattle.bb_terms.specs.declared.wire.Wire.{Wire}
+use Rattle.bb_terms.specs.Numbering.{HasWire, net_at}
 use Rattle.bb_written.specs.Cells.{flops}
 use Rattle.bb_written.specs.Written.{written_netlist, written_variables, inner_wires, wire_site}
 use Rattle.bb_lay.specs.Laying.{IsLaid, AreKept, laid_bits, clock_or}

@@ -12,16 +12,16 @@ use Rattle.bb_base.specs.Variables.{Entry, IsBit, bit_at, bit_eq, is_port, ports
 use Rattle.bb_base.proofs.BitLemmas.{found_bit}
 use Rattle.bb_base.proofs.Contained.{of_all, to_all, contains_map, place_of}
 use Rattle.bb_base.proofs.Lists.{all_join, all_map_back, get_front, get_back, get_map, map_join}
-use Rattle.bb_netlist.specs.Net.{Gate, Flop, driven}
-use Rattle.bb_net.specs.Named.{Named, IsNamed, name_of_net, lookup_of}
+use Rattle.bb_base.specs.Net.{Gate, Flop, driven}
+use Rattle.bb_base.specs.Named.{Named, IsNamed, name_of_net, lookup_of}
 use Rattle.bb_net.specs.Sites.{site_in, site_of, site_of_bit}
 use Rattle.bb_net.proofs.Renaming.{OfAllNets}
-use Rattle.bb_rules.specs.Plan.{PlanValue}
-use Rattle.bb_rules.specs.Valid.{IsValidPlan}
-use Rattle.bb_ctl.specs.declared.wire.Wire.{Wire}
-use Rattle.bb_ctl.specs.declared.wire.Wire.TheVariants.{Kept, Test, Init, So, Done, NotInit, NotTest, Go, NotGo, Parity, Low, Feed, Word, WordNext, Wrap, Phase, PhaseTurned, PhaseNext, Advance, NotAdvance, Ring, RingKept, RingMoved, RingOr, RingNext, NotOver, Live, NotPhase, Running, Shifting, On, Compacts, Latches, Takes, Off, Codes, Feedback, Signed, Carried, First, Line, Chain, Code, Coded, Next, InTest, InNormal, Read, Held}
-use Rattle.bb_ctl.specs.Wires.{symbol_name}
-use Rattle.bb_ctl.specs.Numbering.{found_net, net_by, net_for, number_or_zero}
+use Rattle.bb_terms.specs.Plan.{PlanValue}
+use Rattle.bb_terms.specs.Valid.{IsValidPlan}
+use Rattle.bb_terms.specs.declared.wire.Wire.{Wire}
+use Rattle.bb_terms.specs.declared.wire.Wire.TheVariants.{Kept, Test, Init, So, Done, NotInit, NotTest, Go, NotGo, Parity, Low, Feed, Word, WordNext, Wrap, Phase, PhaseTurned, PhaseNext, Advance, NotAdvance, Ring, RingKept, RingMoved, RingOr, RingNext, NotOver, Live, NotPhase, Running, Shifting, On, Compacts, Latches, Takes, Off, Codes, Feedback, Signed, Carried, First, Line, Chain, Code, Coded, Next, InTest, InNormal, Read, Held}
+use Rattle.bb_terms.specs.Wires.{symbol_name}
+use Rattle.bb_terms.specs.Numbering.{found_net, net_by, net_for, number_or_zero}
 use Rattle.bb_ctl.proofs.SymbolNames.{added_is_new}
 use Rattle.bb_written.specs.Cells.{flops}
 use Rattle.bb_written.specs.Written.{test_gates, written_gate, written_netlist, is_inner, inner_wires, scalar_entry, scalar_site, added_clock, added_ports, inner_entry, written_variables}

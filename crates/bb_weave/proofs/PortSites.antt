@@ -8,11 +8,11 @@ use Rattle.bb_base.specs.declared.variable.Role.TheVariants.{Input, Output, Wire
 use Rattle.bb_base.specs.declared.variable.BitName.{BitName}
 use Rattle.bb_base.specs.Variables.{Entry, bit_at, is_input, is_output, is_port, range_width, places_but, clock_place, role_bits, ports_of}
 use Rattle.bb_base.proofs.Lists.{all_join, map_twice, map_join, same_map, get_front, get_back}
-use Rattle.bb_net.specs.Named.{Named, IsConsistent}
+use Rattle.bb_base.specs.Named.{Named, IsConsistent}
 use Rattle.bb_net.specs.Sites.{Site, site_in, site_of_bit}
-use Rattle.bb_ctl.specs.declared.wire.Wire.{Wire}
-use Rattle.bb_ctl.specs.declared.wire.Wire.TheVariants.{Test, Init, So, Done}
-use Rattle.bb_ctl.specs.Wires.{symbol_name}
+use Rattle.bb_terms.specs.declared.wire.Wire.{Wire}
+use Rattle.bb_terms.specs.declared.wire.Wire.TheVariants.{Test, Init, So, Done}
+use Rattle.bb_terms.specs.Wires.{symbol_name}
 use Rattle.bb_written.specs.Written.{scalar_site, scalar_entry, added_clock, written_clock, added_ports, inner_entry}
 use Rattle.bb_lay.specs.Laying.{clock_or}
 use Rattle.bb_lay.proofs.Clocks.{all_gets, clock_is_port, front_long, wire_at}

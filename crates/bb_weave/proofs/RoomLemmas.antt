@@ -12,23 +12,23 @@ use Rattle.bb_base.specs.Variables.{Entry, bit_count, ports_of}
 use Rattle.bb_base.proofs.Contained.{here, there, either, none_in, of_all, to_all, by_place, place_of, contains_at, contains_map}
 use Rattle.bb_base.proofs.Distinct.{Distinct, few_distinct}
 use Rattle.bb_base.proofs.Lists.{all_back, length_map}
-use Rattle.bb_netlist.specs.Net.{Gate, Flop, Netlist, driven, IsNetlist}
-use Rattle.bb_netlist.proofs.GateLemmas.{driven_distinct}
-use Rattle.bb_net.specs.Named.{Named, IsNamed}
+use Rattle.bb_base.specs.Net.{Gate, Flop, Netlist, driven, IsNetlist}
+use Rattle.bb_base.proofs.GateLemmas.{driven_distinct}
+use Rattle.bb_base.specs.Named.{Named, IsNamed}
 use Rattle.bb_net.proofs.CountLemmas.{nets_few}
-use Rattle.bb_runs.proofs.Sorting.{Ascends, ascend_pairs}
-use Rattle.bb_segment.specs.Paths.{is_free}
-use Rattle.bb_rules.specs.declared.plan.Cell.{Cell}
-use Rattle.bb_rules.specs.declared.kind.Kind.{Kind}
-use Rattle.bb_rules.specs.declared.kind.Kind.TheVariants.{Input, State, Split, Cut, Watch, Output}
-use Rattle.bb_rules.specs.Kinds.{is_source, only_generates}
-use Rattle.bb_rules.specs.Plan.{PlanValue, RegisterValue, chain, has_input, lists_register, sessions_from, sessions_of}
-use Rattle.bb_rules.specs.Rules.{Holds, Registers, Kinds, Apart, Sessions, IsInput, IsQ, IsGateNet, MayStand, Fits, MayCompact, meet}
-use Rattle.bb_rules.specs.Valid.{IsValidPlan}
-use Rattle.bb_rules.proofs.ChainLemmas.{cells_of}
-use Rattle.bb_rules.proofs.NetLemmas.{driven_net, free_input, free_q, input_net_within, out_within, q_within}
+use Rattle.bb_netlist.proofs.Sorting.{Ascends, ascend_pairs}
+use Rattle.bb_terms.specs.Paths.{is_free}
+use Rattle.bb_terms.specs.declared.plan.Cell.{Cell}
+use Rattle.bb_terms.specs.declared.kind.Kind.{Kind}
+use Rattle.bb_terms.specs.declared.kind.Kind.TheVariants.{Input, State, Split, Cut, Watch, Output}
+use Rattle.bb_terms.specs.Kinds.{is_source, only_generates}
+use Rattle.bb_terms.specs.Plan.{PlanValue, RegisterValue, chain, has_input, lists_register, sessions_from, sessions_of}
+use Rattle.bb_terms.specs.Rules.{Holds, Registers, Kinds, Apart, Sessions, IsInput, IsQ, IsGateNet, MayStand, Fits, MayCompact, meet}
+use Rattle.bb_terms.specs.Valid.{IsValidPlan}
+use Rattle.bb_terms.proofs.ChainLemmas.{cells_of}
+use Rattle.bb_terms.proofs.NetLemmas.{driven_net, free_input, free_q, input_net_within, out_within, q_within}
 use Rattle.bb_rules.proofs.SessionLemmas.{none_passes}
-use Rattle.bb_ctl.specs.declared.wire.Wire.{Wire}
+use Rattle.bb_terms.specs.declared.wire.Wire.{Wire}
 use Rattle.bb_written.specs.Written.{added_clock, added_ports, inner_entry, inner_wires, written_variables}
 use Rattle.bb_written.proofs.Few.{are_few}
 use Rattle.bb_lay.proofs.Standing.{bits_join}

@@ -5,15 +5,15 @@ use Rattle.std.specs.Option.{option_map}
 use Rattle.bb_base.specs.Variables.{role_bits, is_input, is_output}
 use Rattle.bb_base.proofs.Contained.{to_all, both_all}
 use Rattle.bb_base.proofs.Lists.{all_back, all_map, map_twice, map_join, same_map_at}
-use Rattle.bb_netlist.specs.Net.{Flop, renamed_gate, renamed_flop, driven}
-use Rattle.bb_net.specs.Named.{Named, IsNamed, name_of_net}
+use Rattle.bb_base.specs.Net.{Flop, renamed_gate, renamed_flop, driven}
+use Rattle.bb_base.specs.Named.{Named, IsNamed, name_of_net}
 use Rattle.bb_net.specs.Sites.{site_of_bit, site_of, sited}
-use Rattle.bb_rules.specs.Plan.{PlanValue}
-use Rattle.bb_rules.specs.Valid.{IsValidPlan}
-use Rattle.bb_ctl.specs.declared.wire.Wire.{Wire}
-use Rattle.bb_ctl.specs.declared.wire.Wire.TheVariants.{Kept, Test, Init, So, Done}
-use Rattle.bb_ctl.specs.Numbering.{net_at}
-use Rattle.bb_ctl.specs.Wires.{symbol_name}
+use Rattle.bb_terms.specs.Plan.{PlanValue}
+use Rattle.bb_terms.specs.Valid.{IsValidPlan}
+use Rattle.bb_terms.specs.declared.wire.Wire.{Wire}
+use Rattle.bb_terms.specs.declared.wire.Wire.TheVariants.{Kept, Test, Init, So, Done}
+use Rattle.bb_terms.specs.Numbering.{net_at}
+use Rattle.bb_terms.specs.Wires.{symbol_name}
 use Rattle.bb_written.specs.Cells.{flops}
 use Rattle.bb_written.specs.Written.{scalar_site, wire_site, written_netlist, inner_wires, written_clock, written}
 use Rattle.bb_written.proofs.Rising.{q_in}

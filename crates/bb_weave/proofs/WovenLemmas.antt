@@ -6,19 +6,19 @@ use Rattle.bb_base.specs.declared.variable.BitName.{BitName}
 use Rattle.bb_base.specs.Variables.{StandsBefore, bit_count, ports_of}
 use Rattle.bb_base.proofs.Contained.{to_all}
 use Rattle.bb_base.proofs.Lists.{all_map_back, get_back, length_map, map_alike, map_twice}
-use Rattle.bb_netlist.specs.Net.{Gate, Flop, driven, times, renamed_gate, renamed_flop}
-use Rattle.bb_net.specs.Named.{Named, IsNamed, IsConsistent, IsByBits}
+use Rattle.bb_base.specs.Net.{Gate, Flop, driven, times, renamed_gate, renamed_flop}
+use Rattle.bb_base.specs.Named.{Named, IsNamed, IsConsistent, IsByBits}
 use Rattle.bb_net.specs.Sites.{site_of, sited}
 use Rattle.bb_net.proofs.CountLemmas.{nets_few, gates_few}
-use Rattle.bb_netlist.specs.Order.{HasOrder}
-use Rattle.bb_net.specs.Building.{started, net_limit, with_gates, with_flops}
-use Rattle.bb_rules.specs.Plan.{PlanValue, chain}
-use Rattle.bb_rules.specs.Valid.{IsValidPlan}
-use Rattle.bb_ctl.specs.declared.wire.Wire.{Wire}
-use Rattle.bb_ctl.specs.declared.wire.Wire.TheVariants.{Kept}
-use Rattle.bb_ctl.specs.Reads.{qs_from}
-use Rattle.bb_ctl.specs.Registers.{control_rows}
-use Rattle.bb_ctl.specs.Numbering.{net_at, number_or_zero, HasDistinctNets}
+use Rattle.bb_base.specs.Order.{HasOrder}
+use Rattle.bb_base.specs.Building.{started, net_limit, with_gates, with_flops}
+use Rattle.bb_terms.specs.Plan.{PlanValue, chain}
+use Rattle.bb_terms.specs.Valid.{IsValidPlan}
+use Rattle.bb_terms.specs.declared.wire.Wire.{Wire}
+use Rattle.bb_terms.specs.declared.wire.Wire.TheVariants.{Kept}
+use Rattle.bb_terms.specs.Reads.{qs_from}
+use Rattle.bb_terms.specs.Registers.{control_rows}
+use Rattle.bb_terms.specs.Numbering.{net_at, number_or_zero, HasDistinctNets}
 use Rattle.bb_written.specs.Cells.{flops}
 use Rattle.bb_written.specs.Written.{written_netlist, written_variables, inner_wires, wire_site, written}
 use Rattle.bb_written.proofs.Forward.{forward}

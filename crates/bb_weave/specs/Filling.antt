@@ -1,12 +1,12 @@
 -- When rows can be added to a builder. No public contract cites this.
 use Rattle.std.specs.Prelude.{◌+◌, ◌^◌, ◌<◌, List, length, ℕ}
 use Rattle.std.specs.List.{AllByRecursion}
-use Rattle.bb_netlist.specs.Net.{HasArity}
-use Rattle.bb_net.specs.Named.{Named}
-use Rattle.bb_rules.specs.Plan.{PlanValue, chain}
-use Rattle.bb_ctl.specs.Reads.{qs_from}
-use Rattle.bb_ctl.specs.Registers.{control_rows}
-use Rattle.bb_ctl.specs.Numbering.{wires_in, HasWire, HasDistinctNets}
+use Rattle.bb_base.specs.Net.{HasArity}
+use Rattle.bb_base.specs.Named.{Named}
+use Rattle.bb_terms.specs.Plan.{PlanValue, chain}
+use Rattle.bb_terms.specs.Reads.{qs_from}
+use Rattle.bb_terms.specs.Registers.{control_rows}
+use Rattle.bb_terms.specs.Numbering.{wires_in, HasWire, HasDistinctNets}
 use Rattle.bb_lay.specs.Laying.{HasBothWires}
 use Rattle.bb_lay.specs.declared.rows.Rows.{Rows}
 

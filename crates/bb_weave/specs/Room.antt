@@ -1,9 +1,9 @@
 -- How many wires a self-test adds: a sum over the cells and the registers of its plan, and what its controller has.
 use Rattle.std.specs.Prelude.{ℕ, ◌+◌, ◌*◌, List, [], ◌∷◌, length}
 use Rattle.std.specs.List.{sum_by, range_with_len}
-use Rattle.bb_rules.specs.declared.kind.Kind.{Kind}
-use Rattle.bb_rules.specs.declared.kind.Kind.TheVariants.{Input, State, Split, Cut, Watch, Output}
-use Rattle.bb_rules.specs.Plan.{PlanValue, chain, sessions_of}
+use Rattle.bb_terms.specs.declared.kind.Kind.{Kind}
+use Rattle.bb_terms.specs.declared.kind.Kind.TheVariants.{Input, State, Split, Cut, Watch, Output}
+use Rattle.bb_terms.specs.Plan.{PlanValue, chain, sessions_of}
 
 -- the wires of a cell of this kind: those that its rows drive, and its bit, where that is no flip-flop of the original
 abbrev pub wires_of_kind : Kind → ℕ

@@ -2,11 +2,11 @@
 
 ghost use Rattle.std.specs.Prelude.{◌≡◌, ◌≤◌, ◌+◌, ◌*◌, ℕ, length};
 ghost use Rattle.bb_base.specs.Variables.{bit_count};
-ghost use Rattle.bb_netlist.specs.Net.{Netlist, IsNetlist, driven};
-ghost use Rattle.bb_net.specs.Named.{Named, IsNamed};
-ghost use Rattle.bb_rules.specs.Plan.{PlanValue, chain};
-ghost use Rattle.bb_rules.specs.Rules.{Holds, Registers, Kinds, Apart, Sessions};
-ghost use Rattle.bb_rules.specs.Valid.{IsValidPlan};
+ghost use Rattle.bb_base.specs.Net.{Netlist, IsNetlist, driven};
+ghost use Rattle.bb_base.specs.Named.{Named, IsNamed};
+ghost use Rattle.bb_terms.specs.Plan.{PlanValue, chain};
+ghost use Rattle.bb_terms.specs.Rules.{Holds, Registers, Kinds, Apart, Sessions};
+ghost use Rattle.bb_terms.specs.Valid.{IsValidPlan};
 ghost use Rattle.bb_written.specs.Written.{inner_wires, written_variables};
 ghost use Rattle.bb_weave.specs.Room.{cell_wires, register_wires, controller_wires};
 

@@ -3,27 +3,28 @@
 ghost use Rattle.std.specs.Prelude.{◌≡◌, ◌≤◌, ◌<◌, ◌^◌, ◌↔◌, ◌++◌, ℕ, IfOk, OnOk, IsSome, length, map};
 ghost use Rattle.std.specs.List.{range_with_len};
 ghost use Rattle.bb_base.specs.Variables.{bit_count};
-ghost use Rattle.bb_netlist.specs.Net.{Netlist as NetlistValue, driven, times, renamed_gate, renamed_flop};
-ghost use Rattle.bb_netlist.specs.Order.{HasOrder, IsOrder};
-ghost use Rattle.bb_net.specs.Named.{IsNamed, IsConsistent, IsByBits};
-ghost use Rattle.bb_net.specs.Building.{with_gates, with_flops};
+ghost use Rattle.bb_base.specs.Net.{Netlist as NetlistValue, driven, times, renamed_gate, renamed_flop};
+ghost use Rattle.bb_base.specs.Order.{HasOrder, IsOrder};
+ghost use Rattle.bb_base.specs.Named.{IsNamed, IsConsistent, IsByBits};
+ghost use Rattle.bb_base.specs.Building.{with_gates, with_flops};
 ghost use Rattle.bb_net.specs.Sites.{sited};
-ghost use Rattle.bb_rules.specs.Plan.{chain};
-ghost use Rattle.bb_rules.specs.Valid.{IsValidPlan, IsValidFor};
-ghost use Rattle.bb_ctl.specs.Reads.{qs_from};
-ghost use Rattle.bb_ctl.specs.Registers.{control_rows};
-ghost use Rattle.bb_ctl.specs.Numbering.{net_at};
+ghost use Rattle.bb_terms.specs.Plan.{chain};
+ghost use Rattle.bb_terms.specs.Valid.{IsValidPlan, IsValidFor};
+ghost use Rattle.bb_terms.specs.Reads.{qs_from};
+ghost use Rattle.bb_terms.specs.Registers.{control_rows};
+ghost use Rattle.bb_terms.specs.Numbering.{net_at};
 ghost use Rattle.bb_written.specs.Written.{written};
 ghost use Rattle.bb_normal.specs.Normal.{Normal};
 ghost use Rattle.bb_ctl.specs.OwnNames.{HasOwnNames};
 ghost use Rattle.bb_weave.specs.Woven.{AreNetsOf};
 ghost use Rattle.bb_weave.specs.Filling.{CanFill};
 
-use bb_ctl::{Wire, add_rows, lines};
+use bb_base::{NetFault, NetId};
+use bb_ctl::{add_rows, lines};
 use bb_lay::{Rows, add_flops, lay_written};
 use bb_net::{Builder, Named};
-use bb_netlist::{NetFault, NetId, Order, OrderFault, find_order};
-use bb_rules::Valid;
+use bb_netlist::{Order, OrderFault, find_order};
+use bb_terms::{Valid, Wire};
 use std::alloc::{AllocError, Global};
 
 /// A netlist with its self-test, and where the original's nets and the cells are in it.

@@ -2,16 +2,18 @@
 
 ghost use Rattle.std.specs.Prelude.{◌≤◌, IfSome};
 ghost use Rattle.bb_base.specs.Variables.{bit_count};
-ghost use Rattle.bb_netlist.specs.Order.{IsOrder};
-ghost use Rattle.bb_rules.specs.Valid.{IsValidFor};
+ghost use Rattle.bb_base.specs.Order.{IsOrder};
+ghost use Rattle.bb_terms.specs.Valid.{IsValidFor};
 ghost use Rattle.bb_ctl.specs.OwnNames.{HasOwnNames};
 
 use crate::plans::{Row, plan};
 use crate::premises::is_weavable;
+use bb_base::Netlist;
 use bb_canon::read_canonical;
 use bb_net::Named;
-use bb_netlist::{Netlist, Order, find_order};
-use bb_plan::{Valid, validate};
+use bb_netlist::{Order, find_order};
+use bb_plan::validate;
+use bb_terms::Valid;
 use bb_weave::weave;
 use std::alloc::Global;
 

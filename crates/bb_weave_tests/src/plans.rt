@@ -1,7 +1,7 @@
 // Plans that are given by hand: nets are numbered in the order in which a text declares them.
 
-use bb_netlist::NetId;
-use bb_plan::{Cell, Kind, Plan, Register, Session};
+use bb_base::NetId;
+use bb_terms::{Cell, Kind, Plan, Register, Session};
 use std::alloc::{AllocError, Global};
 
 /// A cell's kind, net and column.

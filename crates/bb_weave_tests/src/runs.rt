@@ -1,11 +1,12 @@
 // Runs of netlists with self-tests, cycle by cycle. Their last two inputs and outputs are the self-test's.
 
 ghost use Rattle.std.specs.Prelude.{IfSome};
-ghost use Rattle.bb_netlist.specs.Order.{IsOrder};
+ghost use Rattle.bb_base.specs.Order.{IsOrder};
 
+use bb_base::Netlist;
 use bb_eqn::cycle;
 use bb_net::Named;
-use bb_netlist::{Netlist, Order};
+use bb_netlist::Order;
 use std::alloc::{AllocError, Global};
 
 /// The digits of the outputs' bits.

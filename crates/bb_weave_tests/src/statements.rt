@@ -3,8 +3,8 @@
 use crate::netlists::woven;
 use crate::plans::Row;
 use crate::texts::{CUT, IDLE, LATE, ONE, TOGGLE, WIRE};
-use bb_plan::Kind;
 use bb_spell::append_text;
+use bb_terms::Kind;
 use std::alloc::Global;
 
 /// Whether the netlist of a text with this plan's self-test is written with all these pieces.

@@ -1,7 +1,7 @@
 // The written netlist, and its runs. Half adders are run by hand: the states are 0, 1, 3 and 2.
 
 ghost use Rattle.std.specs.Prelude.{IfSome};
-ghost use Rattle.bb_netlist.specs.Order.{IsOrder};
+ghost use Rattle.bb_base.specs.Order.{IsOrder};
 
 use crate::netlists::{read, woven};
 use crate::plans::Row;
@@ -9,8 +9,8 @@ use crate::runs::{first_outputs, outputs, shows};
 use crate::texts::{CUT, HALF, IDLE, LATE, MADE, ONE, STUCK, SUM, SWAP, TOGGLE, WIRE, tested_half};
 use bb_net::Named;
 use bb_netlist::Order;
-use bb_plan::Kind;
 use bb_spell::append_text;
+use bb_terms::Kind;
 use std::alloc::Global;
 
 /// A half adder with the self-test of one session, in which one register compacts both outputs; and the order of its gates.

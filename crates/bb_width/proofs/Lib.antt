@@ -1,2 +1,4 @@
 pub mod SizeLaws
 pub mod TextLaws
+pub mod TableLaws
+pub mod UsedLaws

@@ -1,7 +1,7 @@
 -- Sizes of values and of what steps leave.
 use Rattle.std.proofs.Common.{arith, ◌≡◌, ℕ, suc, ◌+◌, ◌-◌, ◌<◌, List, ◌∷◌, take, drop, ap}
-use Rattle.bb_width.specs.declared.sizes.Size.{Size}
-use Rattle.bb_width.specs.Sizes.{total}
+use Rattle.bb_scope.specs.declared.size.Size.{Size}
+use Rattle.bb_scope.specs.Sizes.{total}
 
 one_less : (n k : ℕ) → k < n → n - k ≡ suc (n - (k + 1))
 one_less n k h = omega (arith, h)

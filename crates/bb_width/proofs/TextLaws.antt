@@ -9,8 +9,8 @@ use Rattle.bb_fault.specs.declared.fault.ElabFault.{ElabFault}
 use Rattle.bb_fault.specs.Firsts.{first_answer}
 use Rattle.bb_scope.specs.Variables.{variables}
 use Rattle.bb_scope.specs.Cells.{unknown_item, unknown_cell}
-use Rattle.bb_width.specs.Parts.{item_fault, bad_part, too_many_nets}
-use Rattle.bb_width.specs.Text.{part_fault}
+use Rattle.bb_scope.specs.Parts.{item_fault, bad_part, too_many_nets}
+use Rattle.bb_scope.specs.Text.{part_fault}
 
 -- where no cell is unknown, the fault of an item is the first of parts
 pub item_is_first :

@@ -10,9 +10,9 @@ ghost use Rattle.bb_scope.specs.Answers.{IsAnswerWith};
 ghost use Rattle.bb_scope.specs.Cells.{is_plain, kind_of};
 ghost use Rattle.bb_scope.specs.Kinds.{kind_value};
 ghost use Rattle.bb_scope.specs.References.{ref_fault, left_width};
-ghost use Rattle.bb_width.specs.Sizes.{expr_fault, value_nets};
+ghost use Rattle.bb_scope.specs.Sizes.{expr_fault, value_nets};
 ghost use Rattle.bb_scope.specs.Terminals.{drives_all};
-ghost use Rattle.bb_width.specs.Parts.{are_right_terms, pin_fault, conns_fault, cell_fault, prim_fault, assign_fault, item_fault, terms_nets, pin_nets, pins_nets, conns_nets, inner_nets, open_nets, cell_nets, item_nets, items_nets};
+ghost use Rattle.bb_scope.specs.Parts.{are_right_terms, pin_fault, conns_fault, cell_fault, prim_fault, assign_fault, item_fault, terms_nets, pin_nets, pins_nets, conns_nets, inner_nets, open_nets, cell_nets, item_nets, items_nets};
 
 use crate::pins::{are_right, is_given, is_plain};
 use crate::sizes::{terminal, value};

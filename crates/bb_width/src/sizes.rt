@@ -8,21 +8,14 @@ ghost use Rattle.bb_fault.specs.Limits.{told_count};
 ghost use Rattle.bb_scope.specs.Uses.{AreNext};
 ghost use Rattle.bb_scope.specs.Answers.{IsAnswer, IsAnswerWith};
 ghost use Rattle.bb_scope.specs.Cells.{is_plain};
-ghost use Rattle.bb_width.specs.Sizes.{width, of_nets, total, too_wide, own_nets, two_fault, choice_fault, repeat_fault, step_fault, not_stack, two_stack, choice_stack, repeat_stack, step_stack, not_nets, two_nets, choice_nets, step_nets, steps_fault, steps_stack, steps_nets, last_size, expr_fault, terminal_nets, value_nets};
+ghost use Rattle.bb_scope.specs.Sizes.{width, of_nets, total, too_wide, own_nets, two_fault, choice_fault, repeat_fault, step_fault, not_stack, two_stack, choice_stack, repeat_stack, step_stack, not_nets, two_nets, choice_nets, step_nets, steps_fault, steps_stack, steps_nets, last_size, expr_fault, terminal_nets, value_nets};
 ghost use Rattle.bb_scope.specs.Terminals.{is_last};
 
 use bb_fault::ElabFault;
 use bb_parse::{Ref, Step};
-use bb_scope::{Scope, WIDTH_LIMIT, behind_step, bits_of, span_fault};
+use bb_scope::{Scope, Size, WIDTH_LIMIT, behind_step, bits_of, span_fault};
 use std::alloc::{AllocError, Global};
 use std::marker::Model;
-
-/// A value by its number of bits: those that are nets, and the constants, which have no net yet.
-#[derive(Clone, Copy, Debug)]
-pub struct Size {
-    pub nets: u32,
-    pub constants: u32,
-}
 
 /// How many bits a value has.
 fn width(size: Size) -> u32
@@ -41,8 +34,8 @@ struct Stack {
 impl Model for Stack {
     ghost use Rattle.std.specs.Prelude.{List, reverse, All, ◌≤◌};
     ghost use Rattle.bb_scope.specs.References.{width_limit};
-    ghost use Rattle.bb_width.specs.Sizes.{width};
-    ghost use Rattle.bb_width.specs.declared.sizes.Size.{Size as SizeValue};
+    ghost use Rattle.bb_scope.specs.Sizes.{width};
+    ghost use Rattle.bb_scope.specs.declared.size.Size.{Size as SizeValue};
 
     ghost Value = { List SizeValue };
 

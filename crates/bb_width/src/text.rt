@@ -9,13 +9,14 @@ ghost use Rattle.bb_scope.specs.Answers.{IsAnswer};
 ghost use Rattle.bb_scope.specs.Variables.{variables};
 ghost use Rattle.bb_fault.specs.Limits.{told_count};
 ghost use Rattle.bb_base.specs.Variables.{bit_count};
-ghost use Rattle.bb_width.specs.Text.{name_fault, part_fault, text_fault};
+ghost use Rattle.bb_scope.specs.Text.{name_fault, part_fault, text_fault};
 
 use crate::parts::items;
+use crate::{Used, port_fault, reserved_fault, table_of};
 use bb_base::{Name, Variable};
 use bb_fault::{ElabFault, bit_count, too_many};
 use bb_parse::Module;
-use bb_scope::{Said, Scope, Used, declared, port_fault, reserved_fault, table_of, unknown_cell};
+use bb_scope::{Said, Scope, declared, unknown_cell};
 use indexmap::IndexMap;
 use std::alloc::Global;
 

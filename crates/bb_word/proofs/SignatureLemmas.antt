@@ -3,8 +3,8 @@ use Rattle.std.proofs.Common.{arith, ◌≡◌, ℕ, ◌+◌, ◌-◌, ◌*◌, 
 use Rattle.std.proofs.lemmas.Nat.{and_mask, pow_pos}
 use lib.Bits.{xor_lt}
 use mir.Val.{bool_byte}
-use Rattle.bb_gf2.specs.Parity.{code_bit}
-use Rattle.bb_creg.specs.Signature.{next_signature}
+use Rattle.bb_base.specs.Parity.{code_bit}
+use Rattle.bb_terms.specs.Signature.{next_signature}
 use Rattle.bb_creg.proofs.WalkSteps.{size_is}
 
 byte_of : (b : Bool) → bool_byte b ≡ (if b then 1 else 0)

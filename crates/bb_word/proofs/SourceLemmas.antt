@@ -9,11 +9,11 @@ use Rattle.std.specs.Int.Bits.{or_zero_r}
 use lib.Bits.{or_shifted_r}
 use Rattle.std.proofs.lemmas.Option.{slice_get-get_or}
 use Rattle.bb_base.specs.Booleans.{xor, parity_of_bits}
-use Rattle.bb_gf2.specs.Bits.{bits, from_bits, picked}
-use Rattle.bb_gf2.specs.Parity.{code_bit, code_of_bits}
+use Rattle.bb_base.specs.Bits.{bits, from_bits, picked}
+use Rattle.bb_base.specs.Parity.{code_bit, code_of_bits}
 use Rattle.bb_gf2.proofs.BitLaws.{code_of_bits-bits, from_bits-bits}
 use Rattle.bb_gf2.proofs.Xor.{xor_assoc_bits}
-use Rattle.bb_creg.specs.Register.{next_state, state_after}
+use Rattle.bb_terms.specs.Register.{next_state, state_after}
 use Rattle.bb_creg.proofs.Injective.{next_below}
 use Rattle.bb_word.specs.Lanes.{lane, in_lane, state_on}
 use Rattle.bb_word.proofs.LaneLemmas.{lane_xor}

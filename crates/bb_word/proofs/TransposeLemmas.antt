@@ -6,7 +6,7 @@ use Rattle.std.proofs.lemmas.Bool.Decides.{nat_tests}
 use Rattle.std.proofs.lemmas.Nat.{pow_pos, shr_split, shr-shr, and_mask}
 use Rattle.std.proofs.lemmas.Nat.Bits.{bit_at-zero, bit_at_cat_low, bit_at_cat_high, and_pow}
 use Rattle.std.proofs.Math.Nat.{add-div_right, div-eq_of_lt}
-use Rattle.bb_gf2.specs.Bits.{from_bits}
+use Rattle.bb_base.specs.Bits.{from_bits}
 use Rattle.bb_word.specs.Lanes.{lane, in_lane}
 use Rattle.bb_word.specs.Transposed.{IsRound, IsExchanged, IsTransposed, swapped, exchanged_bit}
 use Rattle.bb_word.proofs.LaneLemmas.{lane_and, lane_or, turned}

@@ -1,7 +1,7 @@
 -- Words whose bits are those of 64 cases, a case a lane.
 use Rattle.std.specs.Prelude.{ℕ, ◌==◌, zero, suc, Bool, List, map}
 use Rattle.std.specs.Int.{bit_at}
-use Rattle.bb_creg.specs.Register.{next_state}
+use Rattle.bb_terms.specs.Register.{next_state}
 
 -- the bit of a word in a lane
 abbrev pub lane : ℕ → ℕ → Bool

@@ -2,7 +2,7 @@
 //! row's number against the same bit of the lane's, so that four rounds take all (after Warren, Hacker's Delight, 7-3).
 
 ghost use Rattle.std.specs.Prelude.{◌≡◌, ◌<◌, ◌+◌, ◌-◌, ◌/◌, ◌%◌, ◌==◌, ℕ, List, length, if◌then◌else◌};
-ghost use Rattle.bb_gf2.specs.Bits.{from_bits};
+ghost use Rattle.bb_base.specs.Bits.{from_bits};
 ghost use Rattle.bb_word.specs.Lanes.{lane, in_lane};
 ghost use Rattle.bb_word.specs.Transposed.{IsRound, IsExchanged, IsTransposed, exchanged_bit};
 

@@ -6,8 +6,7 @@ ghost use Rattle.bb_base.specs.Operators.{first_bit, op_gives};
 ghost use Rattle.bb_eqn.specs.Values.{bits_at};
 ghost use Rattle.bb_word.specs.Lanes.{lane, in_lane};
 
-use bb_base::Op;
-use bb_netlist::{Gate, NetId};
+use bb_base::{Gate, NetId, Op};
 
 /// In which lanes each of some nets is 1.
 fn all_of(nets: &[NetId], values: &[u64]) -> u64

@@ -3,14 +3,14 @@
 ghost use Rattle.std.specs.Prelude.{◌≡◌, ◌<◌, ℕ, [], length, map, set, All};
 ghost use Rattle.std.specs.List.{AllByRecursion};
 ghost use Rattle.bb_base.specs.Operators.{op_gives};
-ghost use Rattle.bb_netlist.specs.Order.{drivers};
-ghost use Rattle.bb_netlist.specs.Run.{Meets};
+ghost use Rattle.bb_base.specs.Order.{drivers};
+ghost use Rattle.bb_base.specs.Run.{Meets};
 ghost use Rattle.bb_eqn.specs.Values.{bits_at};
 ghost use Rattle.bb_eqn.specs.Sequence.{WriteFirst};
 ghost use Rattle.bb_word.specs.Lanes.{in_lane};
 
 use crate::gate::gate_word;
-use bb_netlist::Gate;
+use bb_base::Gate;
 
 /// Writes the word that a gate gives.
 fn write_gate(gate: &Gate, values: &mut [u64])

@@ -1,7 +1,7 @@
 //! One cycle of a signature register.
 
 ghost use Rattle.std.specs.Prelude.{◌≡◌, ◌<◌, ◌≤◌, ◌^◌};
-ghost use Rattle.bb_creg.specs.Signature.{next_signature};
+ghost use Rattle.bb_terms.specs.Signature.{next_signature};
 
 use bb_gf2::code_bit;
 

@@ -2,8 +2,8 @@
 
 ghost use Rattle.std.specs.Prelude.{◌≡◌, ◌<◌, ◌+◌, ◌*◌, ◌^◌, ℕ, Some, length, slice_get, slice_index};
 ghost use Rattle.std.specs.Int.{bit_at};
-ghost use Rattle.bb_gf2.specs.Parity.{code_bit, code_of_bits};
-ghost use Rattle.bb_creg.specs.Register.{IsDegree, IsMask};
+ghost use Rattle.bb_base.specs.Parity.{code_bit, code_of_bits};
+ghost use Rattle.bb_terms.specs.Register.{IsDegree, IsMask};
 ghost use Rattle.bb_word.specs.Lanes.{lane, in_lane, state_on};
 
 use bb_creg::next;

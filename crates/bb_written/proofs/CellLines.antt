@@ -1,21 +1,21 @@
 -- from the gates of a register and its cells to what it takes
 use Rattle.std.proofs.Common.{◌≡◌, ℕ, ◌+◌, ◌/◌, ◌%◌, suc, List, [], ◌∷◌, length, map, Bool, true, false, not, ◌&&◌, ◌||◌, ◌==◌, if◌then◌else◌, refl, ap, ◌∙◌, arith, Option, Some, None}
 use Rattle.std.specs.List.{AllByRecursion}
-use Rattle.bb_netlist.specs.Net.{Flop, Netlist}
-use Rattle.bb_creg.specs.OnBits.{last_of}
-use Rattle.bb_netlist.specs.Run.{Meets}
-use Rattle.bb_ctl.specs.Controller.{word_ahead}
-use Rattle.bb_ctl.specs.Reads.{q_of, qs_from}
-use Rattle.bb_ctl.specs.Registers.{rows_of_register, registers_from, pass_row, carry_row}
-use Rattle.bb_ctl.specs.declared.wire.Wire.{Wire}
-use Rattle.bb_ctl.specs.declared.wire.Wire.TheVariants.{Kept, Test, NotTest, On, Compacts, Off, Signed, Running, Shifting, Ring, First, Latches, Takes, Codes, Code, Coded, Line, Chain, Next, Read, Held, Carried}
-use Rattle.bb_gf2.specs.Bits.{picked}
+use Rattle.bb_base.specs.Net.{Flop, Netlist}
+use Rattle.bb_terms.specs.OnBits.{last_of}
+use Rattle.bb_base.specs.Run.{Meets}
+use Rattle.bb_terms.specs.Controller.{word_ahead}
+use Rattle.bb_terms.specs.Reads.{q_of, qs_from}
+use Rattle.bb_terms.specs.Registers.{rows_of_register, registers_from, pass_row, carry_row}
+use Rattle.bb_terms.specs.declared.wire.Wire.{Wire}
+use Rattle.bb_terms.specs.declared.wire.Wire.TheVariants.{Kept, Test, NotTest, On, Compacts, Off, Signed, Running, Shifting, Ring, First, Latches, Takes, Codes, Code, Coded, Line, Chain, Next, Read, Held, Carried}
+use Rattle.bb_base.specs.Bits.{picked}
 use Rattle.bb_base.specs.Booleans.{xor, parity_of_bits, some_true}
-use Rattle.bb_rules.specs.Kinds.{is_source, has_line, is_behind}
-use Rattle.bb_rules.specs.Plan.{RegisterValue, PlanValue, sessions_of}
-use Rattle.bb_rules.specs.declared.plan.Cell.{Cell}
-use Rattle.bb_rules.specs.declared.kind.Kind.{Kind}
-use Rattle.bb_rules.specs.declared.kind.Kind.TheVariants.{Input, State, Split, Cut, Watch, Output}
+use Rattle.bb_terms.specs.Kinds.{is_source, has_line, is_behind}
+use Rattle.bb_terms.specs.Plan.{RegisterValue, PlanValue, sessions_of}
+use Rattle.bb_terms.specs.declared.plan.Cell.{Cell}
+use Rattle.bb_terms.specs.declared.kind.Kind.{Kind}
+use Rattle.bb_terms.specs.declared.kind.Kind.TheVariants.{Input, State, Split, Cut, Watch, Output}
 use Rattle.bb_written.specs.Cells.{xor_row, cell_rows, rows_of_cells, all_cells_from, cell_flops}
 use Rattle.bb_written.specs.Modes.{taken, z_bit, g_bit, bit_or_zero, EachRegister, PartMeets, Modes}
 use Rattle.bb_base.proofs.Lists.{all_front, all_back}

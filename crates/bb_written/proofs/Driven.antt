@@ -3,22 +3,22 @@ use Rattle.std.proofs.Common.{arith, ◌≡◌, ◌⊎◌, inl, inr, ℕ, ◌<�
 use Rattle.std.specs.List.{AllByRecursion, flat_map}
 use Rattle.bb_base.proofs.Contained.{here, there, either, none_in, of_all, to_all, by_place, contains_at}
 use Rattle.bb_base.proofs.Lists.{all_join, all_front, all_back, all_map, all_map_back, map_join}
-use Rattle.bb_netlist.specs.Net.{Gate, Flop, Netlist, IsNetlist, driven, reads}
-use Rattle.bb_netlist.proofs.TimesLemmas.{standing}
+use Rattle.bb_base.specs.Net.{Gate, Flop, Netlist, IsNetlist, driven, reads}
+use Rattle.bb_base.proofs.TimesLemmas.{standing}
 use Rattle.bb_net.proofs.Renaming.{OfAllNets, nets_below}
-use Rattle.bb_rules.specs.declared.plan.Cell.{Cell}
-use Rattle.bb_rules.specs.declared.kind.Kind.{Kind}
-use Rattle.bb_rules.specs.declared.kind.Kind.TheVariants.{State, Split}
-use Rattle.bb_rules.specs.Plan.{PlanValue, chain}
-use Rattle.bb_rules.specs.Lines.{d_of}
-use Rattle.bb_rules.specs.Rules.{Kinds, Served, HasKind, MayStand, IsGateNet, IsQ}
-use Rattle.bb_rules.specs.declared.kind.Kind.TheVariants.{Input, Cut, Watch, Output}
-use Rattle.bb_rules.specs.Valid.{IsValidPlan}
-use Rattle.bb_rules.proofs.NetLemmas.{d_within, q_net, q_within, out_within, input_net_within}
-use Rattle.bb_rules.proofs.ServedLemmas.{served_at}
-use Rattle.bb_ctl.specs.declared.wire.Wire.{Wire}
-use Rattle.bb_ctl.specs.declared.wire.Wire.TheVariants.{Kept, Test, Init, So, Done, Phase, PhaseNext}
-use Rattle.bb_ctl.specs.Reads.{q_by, q_of, qs_from}
+use Rattle.bb_terms.specs.declared.plan.Cell.{Cell}
+use Rattle.bb_terms.specs.declared.kind.Kind.{Kind}
+use Rattle.bb_terms.specs.declared.kind.Kind.TheVariants.{State, Split}
+use Rattle.bb_terms.specs.Plan.{PlanValue, chain}
+use Rattle.bb_terms.specs.Lines.{d_of}
+use Rattle.bb_terms.specs.Rules.{Kinds, Served, HasKind, MayStand, IsGateNet, IsQ}
+use Rattle.bb_terms.specs.declared.kind.Kind.TheVariants.{Input, Cut, Watch, Output}
+use Rattle.bb_terms.specs.Valid.{IsValidPlan}
+use Rattle.bb_terms.proofs.NetLemmas.{d_within, q_net, q_within, out_within, input_net_within}
+use Rattle.bb_terms.proofs.ServedLemmas.{served_at}
+use Rattle.bb_terms.specs.declared.wire.Wire.{Wire}
+use Rattle.bb_terms.specs.declared.wire.Wire.TheVariants.{Kept, Test, Init, So, Done, Phase, PhaseNext}
+use Rattle.bb_terms.specs.Reads.{q_by, q_of, qs_from}
 use Rattle.bb_written.specs.Cells.{flop, word_flops, ring_flops, cell_flops, flops}
 use Rattle.bb_written.specs.Written.{test_gates, written_gate, written_netlist}
 use Rattle.bb_written.proofs.Rising.{out_of, q_in}

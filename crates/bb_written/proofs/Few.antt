@@ -3,12 +3,12 @@ use Rattle.std.proofs.Common.{arith, ◌≡◌, ℕ, zero, suc, ◌+◌, ◌≤�
 use Rattle.std.proofs.Math.Pow.{pow_mono}
 use Rattle.std.proofs.Math.Seq.{take-length}
 use Rattle.std.specs.List.{AllByRecursion, flat_map}
-use Rattle.bb_netlist.specs.Net.{Netlist}
+use Rattle.bb_base.specs.Net.{Netlist}
 use Rattle.bb_base.proofs.Contained.{by_place}
 use Rattle.bb_base.proofs.Lists.{get_some}
-use Rattle.bb_rules.specs.Plan.{PlanValue, RegisterValue, chain}
-use Rattle.bb_rules.specs.Rules.{Frame, Registers, Sessions, Room, IsSession}
-use Rattle.bb_rules.specs.Valid.{IsValidPlan}
+use Rattle.bb_terms.specs.Plan.{PlanValue, RegisterValue, chain}
+use Rattle.bb_terms.specs.Rules.{Frame, Registers, Sessions, Room, IsSession}
+use Rattle.bb_terms.specs.Valid.{IsValidPlan}
 
 -- there are few enough of each
 pub record AreFew (p : PlanValue) : Type 0 where

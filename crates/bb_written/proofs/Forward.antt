@@ -1,22 +1,22 @@
 -- from a run of the written netlist outside a test to one of the original
 use Rattle.std.proofs.Common.{◌≡◌, ℕ, ◌+◌, suc, List, [], ◌∷◌, ◌++◌, length, map, take, Bool, true, false, not, ◌&&◌, ◌||◌, ◌==◌, if◌then◌else◌, refl, sym, ap, subst, ◌∙◌, arith, eqb-true, Option, None}
 use Rattle.std.specs.List.{AllByRecursion, flat_map, list_any}
-use Rattle.bb_netlist.specs.Net.{Flop, Netlist}
-use Rattle.bb_netlist.specs.Run.{Meets}
-use Rattle.bb_ctl.specs.Controller.{word_ahead, controller, word_rows, ring_rows}
-use Rattle.bb_ctl.specs.Reads.{q_of, qs_from, read_behind, read}
-use Rattle.bb_ctl.specs.Registers.{registers_from}
-use Rattle.bb_ctl.specs.declared.wire.Wire.{Wire}
-use Rattle.bb_ctl.specs.declared.wire.Wire.TheVariants.{Kept, Test, Init, NotTest, Go, Live, Running, Shifting, First, Latches, Takes, Codes, Next, Read, Held}
+use Rattle.bb_base.specs.Net.{Flop, Netlist}
+use Rattle.bb_base.specs.Run.{Meets}
+use Rattle.bb_terms.specs.Controller.{word_ahead, controller, word_rows, ring_rows}
+use Rattle.bb_terms.specs.Reads.{q_of, qs_from, read_behind, read}
+use Rattle.bb_terms.specs.Registers.{registers_from}
+use Rattle.bb_terms.specs.declared.wire.Wire.{Wire}
+use Rattle.bb_terms.specs.declared.wire.Wire.TheVariants.{Kept, Test, Init, NotTest, Go, Live, Running, Shifting, First, Latches, Takes, Codes, Next, Read, Held}
 use Rattle.bb_base.specs.Operators.{op_gives}
-use Rattle.bb_netlist.specs.Run.{Settles, IsRun, states, next_states}
+use Rattle.bb_base.specs.Run.{Settles, IsRun, states, next_states}
 use Rattle.bb_base.specs.Booleans.{xor}
-use Rattle.bb_rules.specs.Kinds.{is_behind, is_flop}
-use Rattle.bb_rules.specs.Lines.{d_of}
-use Rattle.bb_rules.specs.Plan.{RegisterValue, PlanValue, chain, sessions_of}
-use Rattle.bb_rules.specs.declared.plan.Cell.{Cell}
-use Rattle.bb_rules.specs.declared.kind.Kind.{Kind}
-use Rattle.bb_rules.specs.declared.kind.Kind.TheVariants.{Input, State, Split, Cut, Watch, Output}
+use Rattle.bb_terms.specs.Kinds.{is_behind, is_flop}
+use Rattle.bb_terms.specs.Lines.{d_of}
+use Rattle.bb_terms.specs.Plan.{RegisterValue, PlanValue, chain, sessions_of}
+use Rattle.bb_terms.specs.declared.plan.Cell.{Cell}
+use Rattle.bb_terms.specs.declared.kind.Kind.{Kind}
+use Rattle.bb_terms.specs.declared.kind.Kind.TheVariants.{Input, State, Split, Cut, Watch, Output}
 use Rattle.bb_written.specs.Cells.{cell_rows, rows_of_cells, cell_flops, word_flops, ring_flops, flops, flop}
 use Rattle.bb_written.specs.Modes.{g_bit, EachRegister, PartMeets}
 use Rattle.bb_written.specs.Restricted.{original_bits, RunsAsOriginal, KeepsFlops}

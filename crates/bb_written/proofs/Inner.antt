@@ -3,12 +3,12 @@ use Rattle.std.proofs.Common.{arith, ◌≡◌, ◌≢◌, ℕ, ◌≤◌, List,
 use Rattle.std.specs.List.{AllByRecursion}
 use Rattle.bb_base.proofs.Distinct.{Distinct}
 use Rattle.bb_base.proofs.Lists.{all_join}
-use Rattle.bb_netlist.specs.Net.{Netlist}
-use Rattle.bb_rules.specs.Plan.{PlanValue}
-use Rattle.bb_rules.specs.Valid.{IsValidPlan}
-use Rattle.bb_runs.proofs.Sorting.{Ascends, ascend_pairs}
-use Rattle.bb_ctl.specs.declared.wire.Wire.{Wire}
-use Rattle.bb_ctl.specs.Wires.{IsAdded}
+use Rattle.bb_base.specs.Net.{Netlist}
+use Rattle.bb_terms.specs.Plan.{PlanValue}
+use Rattle.bb_terms.specs.Valid.{IsValidPlan}
+use Rattle.bb_netlist.proofs.Sorting.{Ascends, ascend_pairs}
+use Rattle.bb_terms.specs.declared.wire.Wire.{Wire}
+use Rattle.bb_terms.specs.Wires.{IsAdded}
 use Rattle.bb_written.specs.Cells.{flops}
 use Rattle.bb_written.specs.Written.{test_gates, inner_wires, is_inner}
 use Rattle.bb_written.proofs.Few.{AreFew, are_few}

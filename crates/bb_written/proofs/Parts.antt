@@ -1,12 +1,12 @@
 -- the added rows by parts
 use Rattle.std.proofs.Common.{ℕ, ◌<◌, ◌++◌, Bool, None}
 use Rattle.std.specs.List.{AllByRecursion}
-use Rattle.bb_netlist.specs.Net.{Gate, Netlist}
-use Rattle.bb_netlist.specs.Run.{Meets}
-use Rattle.bb_rules.specs.Plan.{PlanValue}
-use Rattle.bb_ctl.specs.declared.wire.Wire.{Wire}
-use Rattle.bb_ctl.specs.Controller.{controller}
-use Rattle.bb_ctl.specs.Registers.{registers_from, control_rows}
+use Rattle.bb_base.specs.Net.{Gate, Netlist}
+use Rattle.bb_base.specs.Run.{Meets}
+use Rattle.bb_terms.specs.Plan.{PlanValue}
+use Rattle.bb_terms.specs.declared.wire.Wire.{Wire}
+use Rattle.bb_terms.specs.Controller.{controller}
+use Rattle.bb_terms.specs.Registers.{registers_from, control_rows}
 use Rattle.bb_written.specs.Cells.{all_cells_from}
 use Rattle.bb_written.specs.Written.{test_gates}
 use Rattle.bb_written.specs.Trace.{IsTestTrace}

@@ -1,21 +1,21 @@
 -- the written netlist has no loop
 use Rattle.std.proofs.Common.{◌≡◌, ℕ, ◌+◌, ◌*◌, ◌<◌, ◌≤◌, ◌/◌, ◌%◌, zero, suc, List, [], ◌∷◌, ◌++◌, length, map, Bool, true, false, ◌&&◌, ◌==◌, if◌then◌else◌, refl, sym, ap, subst, ◌∙◌, arith, Option, Some, None, eqb-true, length-append}
 use Rattle.std.specs.List.{AllByRecursion, flat_map}
-use Rattle.bb_netlist.specs.Net.{Netlist}
-use Rattle.bb_creg.specs.OnBits.{last_of}
-use Rattle.bb_creg.specs.OnBits.{shifted, front}
-use Rattle.bb_ctl.specs.Controller.{register_word, word_from, word_ahead, low_row, out_row, word_rows, ring_rows, ring_rows_from, controller, last_q}
-use Rattle.bb_ctl.specs.Reads.{line, q_of, q_by, qs_from, read, read_behind}
-use Rattle.bb_ctl.specs.Registers.{pass_row, carry_row, rows_of_register, registers_from}
-use Rattle.bb_ctl.specs.declared.wire.Wire.{Wire}
-use Rattle.bb_ctl.specs.declared.wire.Wire.TheVariants.{Test, Feed, Ring, Code, First, Read}
-use Rattle.bb_gf2.specs.Bits.{picked}
-use Rattle.bb_rules.specs.Kinds.{is_behind}
-use Rattle.bb_rules.specs.Lines.{d_of}
-use Rattle.bb_rules.specs.Plan.{RegisterValue, PlanValue, chain, sessions_of}
-use Rattle.bb_rules.specs.declared.plan.Cell.{Cell}
-use Rattle.bb_rules.specs.declared.kind.Kind.{Kind}
-use Rattle.bb_rules.specs.declared.kind.Kind.TheVariants.{Input, State, Split, Cut, Watch, Output}
+use Rattle.bb_base.specs.Net.{Netlist}
+use Rattle.bb_terms.specs.OnBits.{last_of}
+use Rattle.bb_terms.specs.OnBits.{shifted, front}
+use Rattle.bb_terms.specs.Controller.{register_word, word_from, word_ahead, low_row, out_row, word_rows, ring_rows, ring_rows_from, controller, last_q}
+use Rattle.bb_terms.specs.Reads.{line, q_of, q_by, qs_from, read, read_behind}
+use Rattle.bb_terms.specs.Registers.{pass_row, carry_row, rows_of_register, registers_from}
+use Rattle.bb_terms.specs.declared.wire.Wire.{Wire}
+use Rattle.bb_terms.specs.declared.wire.Wire.TheVariants.{Test, Feed, Ring, Code, First, Read}
+use Rattle.bb_base.specs.Bits.{picked}
+use Rattle.bb_terms.specs.Kinds.{is_behind}
+use Rattle.bb_terms.specs.Lines.{d_of}
+use Rattle.bb_terms.specs.Plan.{RegisterValue, PlanValue, chain, sessions_of}
+use Rattle.bb_terms.specs.declared.plan.Cell.{Cell}
+use Rattle.bb_terms.specs.declared.kind.Kind.{Kind}
+use Rattle.bb_terms.specs.declared.kind.Kind.TheVariants.{Input, State, Split, Cut, Watch, Output}
 use Rattle.bb_written.specs.Cells.{xor_row, cell_rows, rows_of_cells, all_cells_from}
 use Rattle.bb_written.specs.Falling.{Falls, nth, line_net, wire_rank, IsSettledFirst, HasNoLoop}
 use Rattle.bb_written.specs.Written.{test_gates, written_gate}

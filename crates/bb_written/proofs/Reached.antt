@@ -3,20 +3,20 @@ use Rattle.std.proofs.Common.{arith, ◌≡◌, ℕ, ◌+◌, ◌<◌, ◌≤◌
 use Rattle.std.specs.List.{AllByRecursion, flat_map}
 use Rattle.bb_base.proofs.Lists.{map_join, all_front, all_back, all_join}
 use Rattle.bb_base.specs.declared.operator.Op.TheVariants.{And, Or, Xor}
-use Rattle.bb_netlist.specs.Net.{Gate, Flop, Netlist, driven}
-use Rattle.bb_gf2.specs.Bits.{picked}
-use Rattle.bb_creg.specs.OnBits.{last_of, shifted, front}
-use Rattle.bb_rules.specs.declared.plan.Cell.{Cell}
-use Rattle.bb_rules.specs.declared.kind.Kind.{Kind}
-use Rattle.bb_rules.specs.declared.kind.Kind.TheVariants.{Input, State, Split, Cut, Watch, Output}
-use Rattle.bb_rules.specs.Kinds.{is_source, has_line, is_behind}
-use Rattle.bb_rules.specs.Lines.{d_of}
-use Rattle.bb_rules.specs.Plan.{PlanValue, RegisterValue, chain, sessions_of, sessions_from, lists_register}
-use Rattle.bb_ctl.specs.declared.wire.Wire.{Wire}
-use Rattle.bb_ctl.specs.declared.wire.Wire.TheVariants.{Kept, Test, Init, So, Done, NotTest, Go, NotGo, Parity, Low, Feed, Word, Phase, PhaseNext, Advance, NotAdvance, Ring, Running, Shifting, Latches, Takes, Codes, First, Line, Chain, Code, Coded, Next, InTest, InNormal, Read, Held}
-use Rattle.bb_ctl.specs.Reads.{q_by, q_of, qs_from, read, read_behind, line, line_by}
-use Rattle.bb_ctl.specs.Controller.{gate_row, word_from, register_word, word_ahead, word_rows, low_row, start_rows, feed_rows, phase_rows, ring_rows, ring_rows_from, cycle_rows, out_row, last_q, controller}
-use Rattle.bb_ctl.specs.Registers.{rows_of_register, registers_from}
+use Rattle.bb_base.specs.Net.{Gate, Flop, Netlist, driven}
+use Rattle.bb_base.specs.Bits.{picked}
+use Rattle.bb_terms.specs.OnBits.{last_of, shifted, front}
+use Rattle.bb_terms.specs.declared.plan.Cell.{Cell}
+use Rattle.bb_terms.specs.declared.kind.Kind.{Kind}
+use Rattle.bb_terms.specs.declared.kind.Kind.TheVariants.{Input, State, Split, Cut, Watch, Output}
+use Rattle.bb_terms.specs.Kinds.{is_source, has_line, is_behind}
+use Rattle.bb_terms.specs.Lines.{d_of}
+use Rattle.bb_terms.specs.Plan.{PlanValue, RegisterValue, chain, sessions_of, sessions_from, lists_register}
+use Rattle.bb_terms.specs.declared.wire.Wire.{Wire}
+use Rattle.bb_terms.specs.declared.wire.Wire.TheVariants.{Kept, Test, Init, So, Done, NotTest, Go, NotGo, Parity, Low, Feed, Word, Phase, PhaseNext, Advance, NotAdvance, Ring, Running, Shifting, Latches, Takes, Codes, First, Line, Chain, Code, Coded, Next, InTest, InNormal, Read, Held}
+use Rattle.bb_terms.specs.Reads.{q_by, q_of, qs_from, read, read_behind, line, line_by}
+use Rattle.bb_terms.specs.Controller.{gate_row, word_from, register_word, word_ahead, word_rows, low_row, start_rows, feed_rows, phase_rows, ring_rows, ring_rows_from, cycle_rows, out_row, last_q, controller}
+use Rattle.bb_terms.specs.Registers.{rows_of_register, registers_from}
 use Rattle.bb_written.specs.Cells.{when, xor_row, next_terms, cell_rows, rows_of_cells, all_cells_from, flop, word_flops, ring_flops, cell_flops, flops}
 use Rattle.bb_written.specs.Written.{test_gates}
 use Rattle.bb_written.proofs.Rising.{out_of, q_in, cell_outs, outs_of_cell, low_out, so_out}

@@ -3,24 +3,24 @@ use Rattle.std.proofs.Common.{arith, ◌≡◌, ◌≢◌, ℕ, ◌+◌, ◌*◌
 use Rattle.std.specs.List.{AllByRecursion}
 use Rattle.bb_base.proofs.Lists.{map_join}
 use Rattle.bb_base.proofs.Distinct.{Distinct}
-use Rattle.bb_netlist.specs.Net.{Gate, Flop, Netlist}
-use Rattle.bb_gf2.specs.Bits.{picked}
-use Rattle.bb_rules.specs.declared.plan.Cell.{Cell}
-use Rattle.bb_rules.specs.declared.kind.Kind.{Kind}
-use Rattle.bb_rules.specs.declared.kind.Kind.TheVariants.{Input, State, Split, Cut, Watch, Output}
-use Rattle.bb_rules.specs.Plan.{PlanValue, RegisterValue, chain, sessions_of}
-use Rattle.bb_ctl.specs.declared.wire.Wire.{Wire}
-use Rattle.bb_ctl.specs.declared.wire.Wire.TheVariants.{Kept, Test, Init, So, Done, NotInit, NotTest, Go, NotGo, Parity, Low, Feed, Word, WordNext, Wrap, Phase, PhaseTurned, PhaseNext, Advance, NotAdvance, Ring, RingKept, RingMoved, RingOr, RingNext, NotOver, Live, NotPhase, Running, Shifting, On, Compacts, Latches, Takes, Off, Codes, Feedback, Signed, Carried, First, Line, Chain, Code, Coded, Next, InTest, InNormal, Read, Held}
-use Rattle.bb_ctl.specs.Wires.{IsAdded}
-use Rattle.bb_ctl.specs.Reads.{q_by, q_of, line, qs_from}
-use Rattle.bb_ctl.specs.Controller.{gate_row, word_rows, word_ahead, register_word, low_row, start_rows, feed_rows, phase_rows, ring_rows_from, ring_rows, cycle_rows, out_row, last_q, controller}
-use Rattle.bb_ctl.specs.Registers.{rows_of_register, registers_from}
+use Rattle.bb_base.specs.Net.{Gate, Flop, Netlist}
+use Rattle.bb_base.specs.Bits.{picked}
+use Rattle.bb_terms.specs.declared.plan.Cell.{Cell}
+use Rattle.bb_terms.specs.declared.kind.Kind.{Kind}
+use Rattle.bb_terms.specs.declared.kind.Kind.TheVariants.{Input, State, Split, Cut, Watch, Output}
+use Rattle.bb_terms.specs.Plan.{PlanValue, RegisterValue, chain, sessions_of}
+use Rattle.bb_terms.specs.declared.wire.Wire.{Wire}
+use Rattle.bb_terms.specs.declared.wire.Wire.TheVariants.{Kept, Test, Init, So, Done, NotInit, NotTest, Go, NotGo, Parity, Low, Feed, Word, WordNext, Wrap, Phase, PhaseTurned, PhaseNext, Advance, NotAdvance, Ring, RingKept, RingMoved, RingOr, RingNext, NotOver, Live, NotPhase, Running, Shifting, On, Compacts, Latches, Takes, Off, Codes, Feedback, Signed, Carried, First, Line, Chain, Code, Coded, Next, InTest, InNormal, Read, Held}
+use Rattle.bb_terms.specs.Wires.{IsAdded}
+use Rattle.bb_terms.specs.Reads.{q_by, q_of, line, qs_from}
+use Rattle.bb_terms.specs.Controller.{gate_row, word_rows, word_ahead, register_word, low_row, start_rows, feed_rows, phase_rows, ring_rows_from, ring_rows, cycle_rows, out_row, last_q, controller}
+use Rattle.bb_terms.specs.Registers.{rows_of_register, registers_from}
 use Rattle.bb_written.specs.Cells.{when, xor_row, next_terms, cell_rows, rows_of_cells, all_cells_from, flop, word_flops, ring_flops, cell_flops, flops}
 use Rattle.bb_written.specs.Written.{test_gates}
 use Rattle.std.proofs.lemmas.List.Elements.{filter-append}
 use Rattle.bb_base.specs.declared.operator.Op.TheVariants.{And, Or, Xor}
-use Rattle.bb_creg.specs.OnBits.{front, last_of}
-use Rattle.bb_rules.specs.Kinds.{is_source, has_line, is_behind}
+use Rattle.bb_terms.specs.OnBits.{front, last_of}
+use Rattle.bb_terms.specs.Kinds.{is_source, has_line, is_behind}
 
 abbrev pub out_of : Gate Wire → Wire
 out_of g = g.out

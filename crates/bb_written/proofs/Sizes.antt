@@ -2,18 +2,18 @@
 use Rattle.std.proofs.Common.{arith, ◌≡◌, ℕ, ◌+◌, ◌*◌, ◌≤◌, zero, suc, Bool, true, false, cond, List, [], ◌∷◌, ◌++◌, map, filter, length, Option, Some, None, refl, ap, ◌∙◌, length-append}
 use Rattle.std.specs.List.{flat_map}
 use Rattle.bb_base.proofs.Lists.{length_map}
-use Rattle.bb_netlist.specs.Net.{Netlist}
-use Rattle.bb_creg.proofs.Growth.{length_shifted}
-use Rattle.bb_rules.specs.declared.plan.Cell.{Cell}
-use Rattle.bb_rules.specs.declared.kind.Kind.{Kind}
-use Rattle.bb_rules.specs.declared.kind.Kind.TheVariants.{Input, State, Split, Cut, Watch, Output}
-use Rattle.bb_rules.specs.Plan.{PlanValue, RegisterValue, chain, sessions_of}
-use Rattle.bb_creg.specs.OnBits.{last_of}
-use Rattle.bb_ctl.specs.declared.wire.Wire.{Wire}
-use Rattle.bb_ctl.specs.declared.wire.Wire.TheVariants.{Feed, First, Test, Phase, PhaseNext}
-use Rattle.bb_ctl.specs.Reads.{q_of, qs_from}
-use Rattle.bb_ctl.specs.Controller.{word_from, register_word, word_ahead, word_rows, phase_rows, ring_rows, ring_rows_from, cycle_rows, out_row, last_q, controller}
-use Rattle.bb_ctl.specs.Registers.{rows_of_register, registers_from}
+use Rattle.bb_base.specs.Net.{Netlist}
+use Rattle.bb_terms.proofs.Growth.{length_shifted}
+use Rattle.bb_terms.specs.declared.plan.Cell.{Cell}
+use Rattle.bb_terms.specs.declared.kind.Kind.{Kind}
+use Rattle.bb_terms.specs.declared.kind.Kind.TheVariants.{Input, State, Split, Cut, Watch, Output}
+use Rattle.bb_terms.specs.Plan.{PlanValue, RegisterValue, chain, sessions_of}
+use Rattle.bb_terms.specs.OnBits.{last_of}
+use Rattle.bb_terms.specs.declared.wire.Wire.{Wire}
+use Rattle.bb_terms.specs.declared.wire.Wire.TheVariants.{Feed, First, Test, Phase, PhaseNext}
+use Rattle.bb_terms.specs.Reads.{q_of, qs_from}
+use Rattle.bb_terms.specs.Controller.{word_from, register_word, word_ahead, word_rows, phase_rows, ring_rows, ring_rows_from, cycle_rows, out_row, last_q, controller}
+use Rattle.bb_terms.specs.Registers.{rows_of_register, registers_from}
 use Rattle.bb_written.specs.Cells.{cell_rows, rows_of_cells, all_cells_from, word_flops, ring_flops, cell_flops, flop, flops}
 use Rattle.bb_written.specs.Written.{test_gates, inner_wires, is_inner}
 use Rattle.bb_written.proofs.Rising.{out_of, q_in, cell_outs, outs_of_cell, cells_in}

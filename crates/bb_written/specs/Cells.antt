@@ -1,17 +1,17 @@
 -- The rows of the cells, and all flip-flops.
 use Rattle.std.specs.Prelude.{ℕ, ◌+◌, zero, suc, Bool, true, false, List, [], ◌∷◌, ◌++◌, length}
 use Rattle.bb_base.specs.declared.operator.Op.TheVariants.{And, Or, Xor, Zero}
-use Rattle.bb_netlist.specs.Net.{Gate, Flop, Netlist}
-use Rattle.bb_gf2.specs.Bits.{picked}
-use Rattle.bb_rules.specs.declared.plan.Cell.{Cell}
-use Rattle.bb_rules.specs.declared.kind.Kind.{Kind}
-use Rattle.bb_rules.specs.declared.kind.Kind.TheVariants.{Input, State, Split, Cut, Watch, Output}
-use Rattle.bb_rules.specs.Kinds.{is_source, has_line, is_behind}
-use Rattle.bb_rules.specs.Plan.{PlanValue, RegisterValue, chain}
-use Rattle.bb_ctl.specs.declared.wire.Wire.{Wire}
-use Rattle.bb_ctl.specs.declared.wire.Wire.TheVariants.{Kept, Test, NotTest, Word, WordNext, Phase, PhaseNext, Ring, RingNext, Latches, Takes, Codes, First, Line, Chain, Code, Coded, Next, InTest, InNormal, Read, Held}
-use Rattle.bb_ctl.specs.Reads.{q_of, line}
-use Rattle.bb_ctl.specs.Controller.{gate_row, word_ahead}
+use Rattle.bb_base.specs.Net.{Gate, Flop, Netlist}
+use Rattle.bb_base.specs.Bits.{picked}
+use Rattle.bb_terms.specs.declared.plan.Cell.{Cell}
+use Rattle.bb_terms.specs.declared.kind.Kind.{Kind}
+use Rattle.bb_terms.specs.declared.kind.Kind.TheVariants.{Input, State, Split, Cut, Watch, Output}
+use Rattle.bb_terms.specs.Kinds.{is_source, has_line, is_behind}
+use Rattle.bb_terms.specs.Plan.{PlanValue, RegisterValue, chain}
+use Rattle.bb_terms.specs.declared.wire.Wire.{Wire}
+use Rattle.bb_terms.specs.declared.wire.Wire.TheVariants.{Kept, Test, NotTest, Word, WordNext, Phase, PhaseNext, Ring, RingNext, Latches, Takes, Codes, First, Line, Chain, Code, Coded, Next, InTest, InNormal, Read, Held}
+use Rattle.bb_terms.specs.Reads.{q_of, line}
+use Rattle.bb_terms.specs.Controller.{gate_row, word_ahead}
 
 -- these rows, or none
 abbrev pub when : Bool → List (Gate Wire) → List (Gate Wire)

@@ -1,19 +1,19 @@
 -- What the cells of a register take, by bits.
 use Rattle.std.specs.Prelude.{◌≡◌, ℕ, ◌+◌, suc, List, [], ◌∷◌, length, map, Bool, false, ◌&&◌, ◌||◌, not, Option, Some, None}
 use Rattle.std.specs.List.{AllByRecursion}
-use Rattle.bb_netlist.specs.Net.{Netlist}
-use Rattle.bb_creg.specs.OnBits.{last_of}
-use Rattle.bb_netlist.specs.Run.{Meets}
-use Rattle.bb_ctl.specs.Controller.{word_ahead}
-use Rattle.bb_ctl.specs.Reads.{line, qs_from}
-use Rattle.bb_ctl.specs.Registers.{rows_of_register}
-use Rattle.bb_ctl.specs.declared.wire.Wire.{Wire}
-use Rattle.bb_ctl.specs.declared.wire.Wire.TheVariants.{First, Latches, Takes, Codes, Running, Shifting, NotTest, Ring}
-use Rattle.bb_gf2.specs.Bits.{picked}
+use Rattle.bb_base.specs.Net.{Netlist}
+use Rattle.bb_terms.specs.OnBits.{last_of}
+use Rattle.bb_base.specs.Run.{Meets}
+use Rattle.bb_terms.specs.Controller.{word_ahead}
+use Rattle.bb_terms.specs.Reads.{line, qs_from}
+use Rattle.bb_terms.specs.Registers.{rows_of_register}
+use Rattle.bb_terms.specs.declared.wire.Wire.{Wire}
+use Rattle.bb_terms.specs.declared.wire.Wire.TheVariants.{First, Latches, Takes, Codes, Running, Shifting, NotTest, Ring}
+use Rattle.bb_base.specs.Bits.{picked}
 use Rattle.bb_base.specs.Booleans.{xor, parity_of_bits, some_true}
-use Rattle.bb_rules.specs.Kinds.{is_source, has_line}
-use Rattle.bb_rules.specs.Plan.{RegisterValue, PlanValue, sessions_of}
-use Rattle.bb_rules.specs.declared.plan.Cell.{Cell}
+use Rattle.bb_terms.specs.Kinds.{is_source, has_line}
+use Rattle.bb_terms.specs.Plan.{RegisterValue, PlanValue, sessions_of}
+use Rattle.bb_terms.specs.declared.plan.Cell.{Cell}
 use Rattle.bb_written.specs.Cells.{rows_of_cells}
 
 -- the bits that the cells take, where b, n and e are the mode, x the bit before them and qs their bits

@@ -1,13 +1,13 @@
 -- Outside a test the written netlist runs as the original does.
 use Rattle.std.specs.Prelude.{◌≡◌, ℕ, List, [], ◌∷◌, length, map, take, Bool, true, false, ◌==◌, ◌&&◌}
 use Rattle.std.specs.List.{AllByRecursion, list_any}
-use Rattle.bb_netlist.specs.Net.{Netlist, Flop}
-use Rattle.bb_ctl.specs.declared.wire.Wire.{Wire}
-use Rattle.bb_ctl.specs.declared.wire.Wire.TheVariants.{Kept, Test}
-use Rattle.bb_netlist.specs.Run.{IsRun, states}
-use Rattle.bb_rules.specs.Kinds.{is_flop}
-use Rattle.bb_rules.specs.Lines.{d_of}
-use Rattle.bb_rules.specs.Plan.{PlanValue, chain}
+use Rattle.bb_base.specs.Net.{Netlist, Flop}
+use Rattle.bb_terms.specs.declared.wire.Wire.{Wire}
+use Rattle.bb_terms.specs.declared.wire.Wire.TheVariants.{Kept, Test}
+use Rattle.bb_base.specs.Run.{IsRun, states}
+use Rattle.bb_terms.specs.Kinds.{is_flop}
+use Rattle.bb_terms.specs.Lines.{d_of}
+use Rattle.bb_terms.specs.Plan.{PlanValue, chain}
 use Rattle.bb_written.specs.Written.{written_netlist}
 
 -- the bits of the original's nets

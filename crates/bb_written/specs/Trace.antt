@@ -1,11 +1,11 @@
 -- Traces of the added rows in a test: nothing is asked of the original's gates.
 use Rattle.std.specs.Prelude.{◌≡◌, ℕ, ◌<◌, suc, Bool, true, false}
-use Rattle.bb_netlist.specs.Net.{Flop, Netlist}
-use Rattle.bb_netlist.specs.Run.{by_op}
-use Rattle.bb_netlist.specs.Run.{IsTrace}
-use Rattle.bb_rules.specs.Plan.{PlanValue}
-use Rattle.bb_ctl.specs.declared.wire.Wire.{Wire}
-use Rattle.bb_ctl.specs.declared.wire.Wire.TheVariants.{Test, Init}
+use Rattle.bb_base.specs.Net.{Flop, Netlist}
+use Rattle.bb_base.specs.Run.{by_op}
+use Rattle.bb_base.specs.Run.{IsTrace}
+use Rattle.bb_terms.specs.Plan.{PlanValue}
+use Rattle.bb_terms.specs.declared.wire.Wire.{Wire}
+use Rattle.bb_terms.specs.declared.wire.Wire.TheVariants.{Test, Init}
 use Rattle.bb_written.specs.Cells.{flops}
 use Rattle.bb_written.specs.Written.{test_gates}
 

@@ -3,18 +3,18 @@
 use Rattle.std.specs.Prelude.{ℕ, Bool, true, false, List, [], ◌∷◌, ◌++◌, map, filter, take, drop, codes, Option, None, Some}
 use Rattle.bb_base.specs.declared.variable.Role.{Role}
 use Rattle.bb_base.specs.declared.variable.Role.TheVariants.{Input, Output, Wire as WireRole}
-use Rattle.bb_netlist.specs.Net.{Gate, Netlist, renamed}
+use Rattle.bb_base.specs.Net.{Gate, Netlist, renamed}
 use Rattle.bb_base.specs.Variables.{Entry}
-use Rattle.bb_net.specs.Named.{Named}
+use Rattle.bb_base.specs.Named.{Named}
 use Rattle.bb_base.specs.Variables.{ports_of}
 use Rattle.bb_net.specs.Sites.{Site, site_of, Sited, sited}
-use Rattle.bb_rules.specs.Plan.{PlanValue}
-use Rattle.bb_ctl.specs.declared.wire.Wire.{Wire}
-use Rattle.bb_ctl.specs.declared.wire.Wire.TheVariants.{Kept, Test, Init, So, Done}
-use Rattle.bb_ctl.specs.Wires.{symbol_name}
-use Rattle.bb_ctl.specs.Reads.{read}
-use Rattle.bb_ctl.specs.Controller.{gate_row}
-use Rattle.bb_ctl.specs.Registers.{control_rows}
+use Rattle.bb_terms.specs.Plan.{PlanValue}
+use Rattle.bb_terms.specs.declared.wire.Wire.{Wire}
+use Rattle.bb_terms.specs.declared.wire.Wire.TheVariants.{Kept, Test, Init, So, Done}
+use Rattle.bb_terms.specs.Wires.{symbol_name}
+use Rattle.bb_terms.specs.Reads.{read}
+use Rattle.bb_terms.specs.Controller.{gate_row}
+use Rattle.bb_terms.specs.Registers.{control_rows}
 use Rattle.bb_written.specs.Cells.{all_cells_from, flops}
 
 -- the added gates, in the order of their statements

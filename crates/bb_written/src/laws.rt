@@ -1,11 +1,11 @@
 //! Laws, as contracts of functions without a body.
 
-ghost use Rattle.bb_ctl.specs.Wires.{IsAdded};
-ghost use Rattle.bb_ctl.specs.declared.wire.Wire.{Wire};
-ghost use Rattle.bb_net.specs.Named.{Named, IsNamed};
-ghost use Rattle.bb_netlist.specs.Net.{Netlist, driven, reads};
-ghost use Rattle.bb_rules.specs.Plan.{PlanValue};
-ghost use Rattle.bb_rules.specs.Valid.{IsValidPlan};
+ghost use Rattle.bb_terms.specs.Wires.{IsAdded};
+ghost use Rattle.bb_terms.specs.declared.wire.Wire.{Wire};
+ghost use Rattle.bb_base.specs.Named.{Named, IsNamed};
+ghost use Rattle.bb_base.specs.Net.{Netlist, driven, reads};
+ghost use Rattle.bb_terms.specs.Plan.{PlanValue};
+ghost use Rattle.bb_terms.specs.Valid.{IsValidPlan};
 ghost use Rattle.bb_written.specs.Falling.{HasNoLoop};
 ghost use Rattle.bb_written.specs.Restricted.{KeepsFlops, RunsAsOriginal};
 ghost use Rattle.bb_written.specs.Written.{written_netlist, inner_wires};

@@ -4,7 +4,7 @@
 //! - The added wires of a valid plan are added nets, and no two are equal.
 //! - Whatever the written netlist of a valid plan reads is driven.
 //!
-//! The symbols and their names stand in `bb_ctl`; `bb_statements` has the table of small cases, statement by statement.
+//! The symbols, their names and the added gates stand in `bb_terms`; `bb_statements` has the table of small cases, statement by statement.
 #![tactic(auto)]
 
 mod laws;

@@ -2,11 +2,13 @@
 #![tactic(auto)]
 
 ghost use Rattle.std.specs.Prelude.{◌≤◌, IfSome};
-ghost use Rattle.bb_netlist.specs.Order.{IsOrder};
+ghost use Rattle.bb_base.specs.Order.{IsOrder};
 
+use bb_base::Netlist;
 use bb_canon::read_canonical;
 use bb_cone::cuts;
-use bb_net::{Named, Netlist, Order, find_order};
+use bb_net::Named;
+use bb_netlist::{Order, find_order};
 use std::alloc::Global;
 use std::rt::Env;
 use std::time::Instant;

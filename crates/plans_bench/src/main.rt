@@ -4,9 +4,9 @@
 
 ghost use Rattle.std.specs.Prelude.{◌≡◌, ◌≤◌, true, IfSome, length};
 ghost use Rattle.bb_base.specs.Variables.{bit_count};
-ghost use Rattle.bb_netlist.specs.Net.{driven};
-ghost use Rattle.bb_netlist.specs.Order.{IsOrder};
-ghost use Rattle.bb_rules.specs.Valid.{IsValidFor};
+ghost use Rattle.bb_base.specs.Net.{driven};
+ghost use Rattle.bb_base.specs.Order.{IsOrder};
+ghost use Rattle.bb_terms.specs.Valid.{IsValidFor};
 ghost use Rattle.bb_choose.specs.Arranged.{AreInRange};
 ghost use Rattle.bb_ctl.specs.OwnNames.{HasOwnNames};
 
@@ -16,8 +16,9 @@ use bb_choose::{Settings, choose};
 use bb_fault::range_width;
 use bb_net::Named;
 use bb_netlist::{Order, find_order};
-use bb_plan::{Plan, Valid, validate};
+use bb_plan::validate;
 use bb_sign::signatures;
+use bb_terms::{Plan, Valid};
 use bb_weave::weave;
 use std::alloc::Global;
 use std::rt::Env;

@@ -1,8 +1,8 @@
 use Rattle.std.proofs.Common.{◌∙◌, ℕ, sym, ap, subst}
 use Rattle.bb_base.proofs.Contained.{contains_at}
-use Rattle.bb_netlist.specs.Net.{Netlist, renamed_gate, renamed_flop}
-use Rattle.bb_netlist.specs.Drivers.{Drives}
-use Rattle.bb_netlist.specs.declared.netlist.Driver.TheVariants.{Input as InputAt, Gate as GateAt, Flop as FlopAt}
+use Rattle.bb_base.specs.Net.{Netlist, renamed_gate, renamed_flop}
+use Rattle.bb_base.specs.Drivers.{Drives}
+use Rattle.bb_base.specs.declared.netlist.Driver.TheVariants.{Input as InputAt, Gate as GateAt, Flop as FlopAt}
 use Rattle.bb_net.specs.Sites.{site_of}
 use Rattle.bb_alike.specs.Alike.{Outside, Through, Held}
 use Rattle.bb_alike.proofs.FeedLemmas.{input_feeds, gate_feeds, flop_feeds}

@@ -1,7 +1,7 @@
 use Rattle.std.proofs.Common.{arith, ◌≡◌, ◌∙◌, ℕ, Some, Option, sym, ap, subst}
-use Rattle.bb_netlist.specs.Net.{Flop, Netlist, renamed_flop}
-use Rattle.bb_netlist.specs.Drivers.{Drives}
-use Rattle.bb_netlist.specs.declared.netlist.Driver.TheVariants.{Flop as FlopAt}
+use Rattle.bb_base.specs.Net.{Flop, Netlist, renamed_flop}
+use Rattle.bb_base.specs.Drivers.{Drives}
+use Rattle.bb_base.specs.declared.netlist.Driver.TheVariants.{Flop as FlopAt}
 use Rattle.bb_net.specs.Sites.{site_of}
 use Rattle.bb_alike.proofs.NetLemmas.{entry}
 use Rattle.bb_alike.proofs.FeedLemmas.{no_flop}

@@ -1,7 +1,7 @@
 use Rattle.std.proofs.Common.{◌∙◌, ℕ, ap, subst}
-use Rattle.bb_netlist.specs.Net.{Netlist, renamed_gate}
-use Rattle.bb_netlist.specs.Drivers.{Drives}
-use Rattle.bb_netlist.specs.declared.netlist.Driver.TheVariants.{Gate as GateAt}
+use Rattle.bb_base.specs.Net.{Netlist, renamed_gate}
+use Rattle.bb_base.specs.Drivers.{Drives}
+use Rattle.bb_base.specs.declared.netlist.Driver.TheVariants.{Gate as GateAt}
 use Rattle.bb_net.specs.Sites.{site_of}
 use Rattle.bb_alike.proofs.FeedLemmas.{no_gate}
 use Rattle.bb_alike.proofs.AlikeLemmas.{ins_read, gate_alike, gate_read}

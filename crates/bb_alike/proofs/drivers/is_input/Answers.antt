@@ -1,6 +1,6 @@
 use Rattle.std.proofs.Common.{ℕ, subst}
-use Rattle.bb_netlist.specs.Net.{Netlist}
-use Rattle.bb_netlist.specs.Drivers.{Drives}
+use Rattle.bb_base.specs.Net.{Netlist}
+use Rattle.bb_base.specs.Drivers.{Drives}
 use Rattle.bb_alike.proofs.FeedLemmas.{no_input}
 use Rattle.bb_alike.proofs.drivers.is_input.Goals as goal
 

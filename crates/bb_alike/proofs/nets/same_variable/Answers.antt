@@ -1,5 +1,5 @@
 use Rattle.std.proofs.Common.{◌≡◌, sym, ap, ◌∙◌}
-use Rattle.bb_net.specs.Named.{lookup_of}
+use Rattle.bb_base.specs.Named.{lookup_of}
 use Rattle.bb_alike.proofs.nets.same_variable.Goals as goal
 
 pub returns : goal.returns

@@ -1,7 +1,7 @@
 use Rattle.std.proofs.Common.{arith, ◌<◌, length}
 use Rattle.bb_base.proofs.Lists.{get_some}
 use Rattle.bb_base.specs.Variables.{Entry}
-use Rattle.bb_net.specs.Named.{lookup_of}
+use Rattle.bb_base.specs.Named.{lookup_of}
 use Rattle.std.proofs.Common.{◌++◌, ◌∷◌, [], ap, ◌∙◌}
 use Rattle.bb_alike.proofs.ListLemmas.{map_more}
 use Rattle.bb_alike.proofs.nets.same_variables.Goals as goal

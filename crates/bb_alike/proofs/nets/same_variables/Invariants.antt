@@ -1,6 +1,6 @@
 use Rattle.std.proofs.Common.{◌≡◌, map, take}
 use Rattle.bb_base.specs.Variables.{Entry}
-use Rattle.bb_net.specs.Named.{lookup_of}
+use Rattle.bb_base.specs.Named.{lookup_of}
 use Rattle.bb_alike.proofs.nets.same_variables.Given as goal
 
 abbrev pub invariant-loop-number : goal.invariant-loop-number

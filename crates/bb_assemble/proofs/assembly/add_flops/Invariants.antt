@@ -1,6 +1,6 @@
 use Rattle.std.proofs.Common.{◌≡◌, map, take}
 use Rattle.bb_assemble.specs.Assembling.{number_for, numbered_flop}
-use Rattle.bb_net.specs.Building.{with_flops}
+use Rattle.bb_base.specs.Building.{with_flops}
 use Rattle.bb_assemble.proofs.assembly.add_flops.Given as goal
 
 abbrev pub invariant-loop-flop : goal.invariant-loop-flop

@@ -1,5 +1,5 @@
 use Rattle.std.proofs.Common.{arith}
-use Rattle.bb_netlist.specs.Net.{renamed_gate}
+use Rattle.bb_base.specs.Net.{renamed_gate}
 use Rattle.bb_assemble.specs.Assembling.{number_for}
 use Rattle.bb_drive.specs.Origins.{is_marked}
 use Rattle.bb_assemble.proofs.PlaceSteps.{gates_few}

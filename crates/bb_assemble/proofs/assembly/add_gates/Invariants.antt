@@ -1,7 +1,7 @@
 use Rattle.std.proofs.Common.{◌≡◌, map, filter, take}
-use Rattle.bb_netlist.specs.Net.{renamed_gate}
+use Rattle.bb_base.specs.Net.{renamed_gate}
 use Rattle.bb_assemble.specs.Assembling.{number_for}
-use Rattle.bb_net.specs.Building.{with_gates}
+use Rattle.bb_base.specs.Building.{with_gates}
 use Rattle.bb_drive.specs.Origins.{is_marked}
 use Rattle.bb_assemble.proofs.assembly.add_gates.Given as goal
 

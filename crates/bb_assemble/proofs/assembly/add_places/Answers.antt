@@ -2,7 +2,7 @@ use Rattle.std.proofs.Common.{◌≤◌, length, ap, Err, ◌≡◌, ◌+◌, tr
 use Rattle.std.proofs.lemmas.Bool.Decides.{nat_tests}
 use Rattle.bb_assemble.specs.Assembling.{is_kept}
 use Rattle.bb_base.specs.Variables.{bit_at}
-use Rattle.bb_net.specs.Building.{net_limit, with_net}
+use Rattle.bb_base.specs.Building.{net_limit, with_net}
 use Rattle.bb_net.proofs.OnlyMemory.{net_memory}
 use Rattle.bb_assemble.proofs.RoomLaws.{net_room}
 use Rattle.bb_assemble.proofs.PlaceSteps.{place_kept, place_left}

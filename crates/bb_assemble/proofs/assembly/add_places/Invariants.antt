@@ -1,5 +1,5 @@
 use Rattle.std.proofs.Common.{◌≡◌, All}
-use Rattle.bb_net.specs.Building.{IsEarlier}
+use Rattle.bb_base.specs.Building.{IsEarlier}
 use Rattle.bb_assemble.specs.Assembling.{is_kept, kept_bits, with_names}
 use Rattle.bb_assemble.proofs.assembly.add_places.Given as goal
 

@@ -1,9 +1,9 @@
 use Rattle.std.proofs.Common.{arith, Err, ◌≡◌, ℕ, All, List, length, map, filter, ap, sym, subst, ◌∙◌}
-use Rattle.bb_netlist.specs.Net.{Gate, Flop, renamed_gate, HasArity}
-use Rattle.bb_net.specs.Named.{Named, IsNamed}
-use Rattle.bb_drive.specs.Work.{Work}
+use Rattle.bb_base.specs.Net.{Gate, Flop, renamed_gate, HasArity}
+use Rattle.bb_base.specs.Named.{Named, IsNamed}
+use Rattle.bb_fault.specs.Work.{Work}
 use Rattle.bb_drive.specs.Nets.{bit_name}
-use Rattle.bb_assemble.specs.NamedOf.{kept, named_of}
+use Rattle.bb_drive.specs.NamedOf.{kept, named_of}
 use Rattle.bb_drive.specs.Within.{IsGateWithin}
 use Rattle.bb_assemble.specs.Assembling.{number_for, is_kept, numbered_flop}
 use Rattle.bb_drive.specs.Origins.{is_marked}

@@ -2,7 +2,7 @@ use Rattle.std.proofs.Common.{◌≡◌, ◌<◌, ◌+◌, ◌-◌, ℕ, length,
 use Rattle.std.proofs.Math.ListN.{length-set}
 use Rattle.std.proofs.lemmas.Option.{slice_get-get_or}
 use Rattle.bb_net.proofs.VariableLemmas.{all_at}
-use Rattle.bb_assemble.specs.NamedOf.{place_among}
+use Rattle.bb_drive.specs.NamedOf.{place_among}
 use Rattle.bb_assemble.proofs.NumberLaws.{put_step}
 use Rattle.bb_assemble.proofs.numbers.put_numbers.Goals as goal
 

@@ -1,5 +1,5 @@
 use Rattle.std.proofs.Common.{◌≡◌, ℕ, ◌<◌, ◌≤◌, ◌+◌, length, drop, slice_get, Some}
-use Rattle.bb_assemble.specs.NamedOf.{place_among}
+use Rattle.bb_drive.specs.NamedOf.{place_among}
 use Rattle.bb_assemble.proofs.numbers.put_numbers.Given as goal
 
 abbrev pub invariant-bits : goal.invariant-bits

@@ -1,5 +1,5 @@
 use Rattle.std.proofs.Common.{◌≡◌, ◌++◌, map, take}
-use Rattle.bb_rules.specs.declared.plan.Cell.{Cell}
+use Rattle.bb_terms.specs.declared.plan.Cell.{Cell}
 use Rattle.bb_audit.proofs.duals.add_columns.Given as goal
 
 abbrev pub invariant-cells : goal.invariant-cells

@@ -1,5 +1,5 @@
 use Rattle.std.proofs.Common.{arith, ◌<◌, ◌^◌, ℕ, List, length, slice_index, refl, sym, subst, below_more}
-use Rattle.bb_gf2.specs.Dual.{IsDual}
+use Rattle.bb_base.specs.Dual.{IsDual}
 use Rattle.bb_alike.proofs.ListLemmas.{not_both}
 use Rattle.bb_audit.proofs.DualLemmas.{rows, ends, IsDualEnd, from_ends, to_ends, same_rows}
 use Rattle.bb_audit.proofs.duals.have_duals.Goals as goal

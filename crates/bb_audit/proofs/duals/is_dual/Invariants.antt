@@ -1,5 +1,5 @@
 use Rattle.std.proofs.Common.{◌≡◌, ◌<◌, ◌==◌, ℕ, map, slice_index}
-use Rattle.bb_gf2.specs.Parity.{code_bit}
+use Rattle.bb_base.specs.Parity.{code_bit}
 use Rattle.bb_audit.proofs.duals.is_dual.Given as goal
 
 abbrev pub invariant-pairs : goal.invariant-pairs

@@ -1,6 +1,6 @@
 use Rattle.std.proofs.Common.{◌≡◌, ℕ, Vec, Global, Err, map, ap, subst}
-use Rattle.bb_netlist.specs.Net.{Netlist}
-use Rattle.bb_rules.specs.declared.fault.PlanFault.TheVariants.{Rule}
+use Rattle.bb_base.specs.Net.{Netlist}
+use Rattle.bb_terms.specs.declared.fault.PlanFault.TheVariants.{Rule}
 use Rattle.bb_plan.specs.Answered.{IsAnsweredFault}
 use Rattle.bb_forms.specs.declared.signature.Signature.{Signature}
 use Rattle.bb_audit.specs.declared.fault.AuditFault.TheVariants.{Refused}

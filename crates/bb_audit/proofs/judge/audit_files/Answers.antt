@@ -1,9 +1,9 @@
 use Rattle.std.proofs.Common.{arith, ◌≡◌, ◌+◌, ◌-◌, ◌≤◌, ◌^◌, ◌∙◌, ℕ, List, Vec, Global, inl, inr, map, min, refl, sym, ap, subst}
-use Rattle.bb_netlist.specs.Net.{Netlist}
+use Rattle.bb_base.specs.Net.{Netlist}
 use Rattle.bb_net.specs.Sites.{Sited}
-use Rattle.bb_rules.specs.Plan.{PlanValue}
-use Rattle.bb_rules.specs.Rules.{Frame}
-use Rattle.bb_rules.specs.Valid.{SegmentValue}
+use Rattle.bb_terms.specs.Plan.{PlanValue}
+use Rattle.bb_terms.specs.Rules.{Frame}
+use Rattle.bb_terms.specs.Valid.{SegmentValue}
 use Rattle.bb_written.specs.Written.{written}
 use Rattle.bb_normal.specs.Mirrors.{Mirrors}
 use Rattle.bb_forms.specs.declared.signature.Signature.{Signature}

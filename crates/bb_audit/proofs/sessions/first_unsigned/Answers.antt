@@ -1,6 +1,6 @@
 use Rattle.std.proofs.Common.{◌≡◌, ◌∙◌, ℕ, List, Vec, Global, map, sym, ap, subst}
-use Rattle.bb_rules.specs.Plan.{PlanValue}
-use Rattle.bb_rules.specs.Signatures.{IsSigned, AreSignatures}
+use Rattle.bb_terms.specs.Plan.{PlanValue}
+use Rattle.bb_terms.specs.Signatures.{IsSigned, AreSignatures}
 use Rattle.bb_audit.proofs.ListedLemmas.{all_zipped}
 use Rattle.bb_audit.proofs.sessions.first_unsigned.Goals as goal
 

@@ -1,5 +1,5 @@
 use Rattle.std.proofs.Common.{length}
-use Rattle.bb_net.specs.Named.{Named}
+use Rattle.bb_base.specs.Named.{Named}
 use Rattle.bb_canon.specs.Along.{ClockLeft, clock_text}
 use Rattle.bb_canon.proofs.read.find_clock.Given as goal
 

@@ -1,5 +1,5 @@
 use Rattle.std.proofs.Common.{sym, ◌∙◌}
-use Rattle.bb_net.specs.Named.{design_of}
+use Rattle.bb_base.specs.Named.{design_of}
 use Rattle.bb_canon.specs.declared.draft.CanonFault.TheVariants.{Line, Unfit}
 use Rattle.bb_canon.proofs.Designs.{one_design, names_no_line, err_same}
 use Rattle.bb_spell.proofs.Texts.{design_text, buildable_numbered}

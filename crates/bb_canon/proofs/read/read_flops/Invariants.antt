@@ -1,5 +1,5 @@
 use Rattle.std.proofs.Common.{ℕ, List, length}
-use Rattle.bb_net.specs.Named.{Named}
+use Rattle.bb_base.specs.Named.{Named}
 use Rattle.bb_canon.specs.Sections.{IsSection, clocks}
 use Rattle.bb_spell.specs.Limits.{IsBuildable}
 use Rattle.bb_canon.specs.Along.{FlopsLeft}

@@ -1,7 +1,7 @@
 use Rattle.std.proofs.Common.{◌≡◌, [], sym, ◌∙◌}
 use Rattle.std.proofs.lemmas.Option.{same_Some}
-use Rattle.bb_netlist.specs.Net.{renamed_gate}
-use Rattle.bb_net.specs.Named.{net_text}
+use Rattle.bb_base.specs.Net.{renamed_gate}
+use Rattle.bb_base.specs.Named.{net_text}
 use Rattle.bb_canon.proofs.read.read_gate.Goals as goal
 
 pub returns-in-Ok-clause-want : goal.returns-in-Ok-clause-want

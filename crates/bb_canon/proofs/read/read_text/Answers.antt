@@ -1,5 +1,5 @@
 use Rattle.std.proofs.lemmas.Result.{err_from_is_err_and}
-use Rattle.bb_net.specs.Named.{design_of}
+use Rattle.bb_base.specs.Named.{design_of}
 use Rattle.bb_spell.proofs.Texts.{design_text}
 use Rattle.bb_canon.proofs.SectionsOf.{sections_of, the_end}
 use Rattle.std.proofs.Common.{◌≡◌, sym, ap, ◌∙◌, [], refl, subst, is_some}

@@ -1,5 +1,5 @@
 use Rattle.std.proofs.Common.{◌≡◌, ◌++◌, ◌∙◌, sym, ap, rules}
-use Rattle.bb_net.specs.Named.{design_of}
+use Rattle.bb_base.specs.Named.{design_of}
 use Rattle.bb_spell.specs.Canonical.{canonical_text}
 use Rattle.bb_canon.proofs.Redrawn.{drawn_design}
 use Rattle.bb_canon.proofs.read.read_whole.Goals as goal

@@ -1,14 +1,14 @@
 use Rattle.std.proofs.Common.{arith, ◌≡◌, ℕ, ◌≤◌, false, List, length, nat_eq, sym, subst}
-use Rattle.bb_netlist.specs.Net.{driven}
-use Rattle.bb_segment.specs.Paths.{Behind, is_free}
-use Rattle.bb_segment.specs.Support.{AreLeaves}
-use Rattle.bb_segment.specs.Cuts.{is_stop_with}
+use Rattle.bb_base.specs.Net.{driven}
+use Rattle.bb_terms.specs.Paths.{Behind, is_free}
+use Rattle.bb_terms.specs.Support.{AreLeaves}
+use Rattle.bb_terms.specs.Cuts.{is_stop_with}
 use Rattle.bb_base.proofs.Contained.{of_all, by_place}
 use Rattle.bb_reg.specs.Draft.{AreCells}
 use Rattle.std.specs.List.Sorted.{IsStrictlyIncreasing}
 use Rattle.std.specs.Set.{distinct_count}
-use Rattle.bb_netlist.specs.Net.{Gate}
-use Rattle.bb_chosen.specs.ChosenPlan.{AreCutsOf}
+use Rattle.bb_base.specs.Net.{Gate}
+use Rattle.bb_choose.specs.ChosenPlan.{AreCutsOf}
 use Rattle.bb_choose.specs.Coding.{CanTakeColumns}
 use Rattle.bb_choose.proofs.ReadyLemmas.{ready}
 use Rattle.bb_choose.proofs.arranged.arranged.Goals as goal

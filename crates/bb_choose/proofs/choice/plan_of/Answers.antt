@@ -1,9 +1,9 @@
 use Rattle.std.proofs.Common.{arith, ◌≡◌, ◌+◌, ◌*◌, ◌^◌, ◌≤◌, ◌<◌, Err, length, map, slice_index, sym, ap, subst, ◌∙◌}
 use Rattle.std.specs.List.{AllByRecursion}
 use Rattle.bb_base.specs.Firsts.{IsLeast}
-use Rattle.bb_creg.specs.Register.{IsFullMask}
+use Rattle.bb_terms.specs.Register.{IsFullMask}
 use Rattle.bb_code.specs.Segments.{sources_of}
-use Rattle.bb_rules.specs.Plan.{RegisterValue}
+use Rattle.bb_terms.specs.Plan.{RegisterValue}
 use Rattle.bb_reg.specs.Chosen.{GroupedValue, scheduled_of}
 use Rattle.bb_choose.specs.Choice.{LacksDegree, LacksMask, IsFirstUnmasked, cycle_count}
 use Rattle.bb_choose.specs.Coding.{HasColumn, coded_register}

@@ -1,5 +1,5 @@
 use Rattle.std.proofs.Common.{◌≡◌, ◌<◌, ℕ, length, slice_get, Some}
-use Rattle.bb_rules.specs.Plan.{RegisterValue}
+use Rattle.bb_terms.specs.Plan.{RegisterValue}
 use Rattle.bb_choose.proofs.masks.has_length.Given as goal
 
 abbrev pub invariant-registers : goal.invariant-registers

@@ -1,6 +1,6 @@
 use Rattle.std.proofs.Common.{◌≡◌, ◌<◌, ◌≤◌, ℕ, length, slice_index}
 use Rattle.bb_base.specs.Firsts.{IsLeast}
-use Rattle.bb_creg.specs.Register.{IsFullMask}
+use Rattle.bb_terms.specs.Register.{IsFullMask}
 use Rattle.bb_choose.specs.Choice.{IsUnmasked}
 use Rattle.bb_choose.specs.Coding.{HasLength}
 use Rattle.bb_choose.proofs.masks.masks_of.Given as goal

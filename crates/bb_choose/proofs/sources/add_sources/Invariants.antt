@@ -1,5 +1,5 @@
 use Rattle.std.proofs.Common.{◌≡◌, ◌++◌, map, filter, take}
-use Rattle.bb_rules.specs.Kinds.{is_source}
+use Rattle.bb_terms.specs.Kinds.{is_source}
 use Rattle.bb_choose.proofs.sources.add_sources.Given as goal
 
 abbrev pub invariant-cells : goal.invariant-cells

@@ -1,6 +1,6 @@
 use Rattle.std.proofs.Common.{map, take, sym, subst}
 use Rattle.std.proofs.lemmas.List.{take_all}
-use Rattle.bb_gf2.specs.Span.{IsInCoset}
+use Rattle.bb_base.specs.Span.{IsInCoset}
 use Rattle.bb_code.specs.Marks.{IsInside}
 use Rattle.bb_code.proofs.Marking.{HasMore, span_step, read_more}
 use Rattle.bb_code.proofs.marks.mark_spans.Goals as goal

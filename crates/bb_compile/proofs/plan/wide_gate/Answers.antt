@@ -1,5 +1,5 @@
 use Rattle.std.proofs.Common.{◌≡◌, ℕ, ◌<◌, length, refl, sym, ap, ◌∙◌, subst}
-use Rattle.bb_netlist.specs.Net.{Gate, Netlist}
+use Rattle.bb_base.specs.Net.{Gate, Netlist}
 use Rattle.bb_compile.specs.Causes.{IsNameOf}
 use Rattle.bb_compile.proofs.PlanLemmas.{item_is, gate_within}
 use Rattle.bb_compile.proofs.plan.wide_gate.Goals as goal

@@ -1,7 +1,7 @@
 use Rattle.std.proofs.Common.{subst}
 use Rattle.std.proofs.lemmas.Result.{IfOk-weaker}
-use Rattle.bb_netlist.specs.Order.{IsOrder}
-use Rattle.bb_net.specs.Named.{Named}
+use Rattle.bb_base.specs.Order.{IsOrder}
+use Rattle.bb_base.specs.Named.{Named}
 use Rattle.bb_make.specs.Artifacts.{AreArtifacts}
 use Rattle.bb_compile.specs.Made.{IsMadeSample}
 use Rattle.bb_compile.proofs.sampled.artifacts_of.Goals as goal

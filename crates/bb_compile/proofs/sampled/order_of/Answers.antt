@@ -1,7 +1,7 @@
 use Rattle.std.proofs.Common.{ℕ, ap, subst, Err}
-use Rattle.bb_netlist.specs.Net.{Netlist}
-use Rattle.bb_netlist.specs.Order.{IsCycle}
-use Rattle.bb_netlist.proofs.CycleLemmas.{no_cycle}
+use Rattle.bb_base.specs.Net.{Netlist}
+use Rattle.bb_base.specs.Order.{IsCycle}
+use Rattle.bb_base.proofs.CycleLemmas.{no_cycle}
 use Rattle.bb_compile.proofs.sampled.order_of.Goals as goal
 
 pub unreachable-requires : goal.unreachable-requires

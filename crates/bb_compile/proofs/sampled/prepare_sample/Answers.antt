@@ -1,6 +1,6 @@
 use Rattle.std.proofs.Common.{◌∙◌, ap, List, [], ◌∷◌, ◌++◌, codes}
 use Rattle.bb_edge.specs.Files.{FileValue}
-use Rattle.bb_net.specs.Named.{Named, design_of}
+use Rattle.bb_base.specs.Named.{Named, design_of}
 use Rattle.bb_spell.specs.Canonical.{canonical_text}
 use Rattle.bb_make.specs.Artifacts.{ArtifactsValue}
 use Rattle.bb_compile.specs.Outputs.{outputs}

@@ -1,9 +1,9 @@
 use Rattle.std.proofs.Common.{◌<◌, ◌^◌, ◌∙◌, ℕ, List, subst, sym, []}
 use Rattle.std.specs.List.Sorted.{IsPermutation}
-use Rattle.bb_netlist.specs.Net.{Gate}
-use Rattle.bb_netlist.specs.Levels.{AreGates}
-use Rattle.bb_netlist.specs.Order.{IsOrder}
-use Rattle.bb_netlist.proofs.GateLemmas.{gates_fit}
+use Rattle.bb_base.specs.Net.{Gate}
+use Rattle.bb_base.specs.Levels.{AreGates}
+use Rattle.bb_base.specs.Order.{IsOrder}
+use Rattle.bb_base.proofs.GateLemmas.{gates_fit}
 use Rattle.bb_segment.proofs.ShortLemmas.{short_supports}
 use Rattle.bb_cone.specs.Cutting.{IsCutting}
 use Rattle.bb_cone.proofs.PlaceLemmas.{fit_of}

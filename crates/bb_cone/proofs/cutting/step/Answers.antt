@@ -1,7 +1,7 @@
 use Rattle.std.proofs.Common.{arith, ◌≡◌, ◌<◌, ◌++◌, ◌∷◌, [], ℕ, Bool, true, List, ◌∙◌, subst, ap, sym, Contains, length, slice_set}
 use Rattle.std.proofs.lemmas.Grind.{common_steps}
-use Rattle.bb_netlist.specs.Net.{Gate}
-use Rattle.bb_segment.specs.Support.{stop_at}
+use Rattle.bb_base.specs.Net.{Gate}
+use Rattle.bb_terms.specs.Support.{stop_at}
 use Rattle.bb_cone.specs.Cutting.{IsUnion, IsWidest, IsCutting, table_entry, weight}
 use Rattle.bb_segment.specs.Walks.{HasMore}
 use Rattle.bb_base.proofs.Contained.{here}

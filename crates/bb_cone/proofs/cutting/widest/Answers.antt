@@ -1,6 +1,6 @@
 use Rattle.std.proofs.Common.{arith, ℕ, List, sym, ap, ◌∙◌, ◌++◌, ◌∷◌, [], take, subst}
 use Rattle.std.proofs.lemmas.List.{take_more, take_all}
-use Rattle.bb_segment.specs.Support.{stop_at}
+use Rattle.bb_terms.specs.Support.{stop_at}
 use Rattle.bb_segment.proofs.WalkLemmas.{item_in}
 use Rattle.bb_cone.proofs.TableLemmas.{Best, best_stop, best_on}
 use Rattle.bb_cone.proofs.cutting.widest.Goals as goal

@@ -1,5 +1,5 @@
 use Rattle.std.proofs.Common.{◌≡◌, ◌<◌, ℕ, true, length, take, Contains, Some, None}
-use Rattle.bb_segment.specs.Support.{stop_at}
+use Rattle.bb_terms.specs.Support.{stop_at}
 use Rattle.bb_cone.specs.Cutting.{IsWidest}
 use Rattle.bb_cone.proofs.cutting.widest.Given as goal
 

@@ -1,6 +1,6 @@
 use Rattle.std.proofs.Common.{arith, ℕ, List, ap, ◌∙◌, length, refl, subst, Contains}
 use Rattle.std.proofs.lemmas.Grind.{common_steps}
-use Rattle.bb_netlist.specs.Net.{Gate}
+use Rattle.bb_base.specs.Net.{Gate}
 use Rattle.bb_cone.proofs.EntryLemmas.{net_of}
 use Rattle.bb_cone.proofs.PlaceLemmas.{number_low, stands_read, order_long, gate_of}
 use Rattle.bb_cone.proofs.TableLemmas.{Noted, readers_first, readers_more}

@@ -2,8 +2,8 @@ use Rattle.std.proofs.Common.{arith, ◌≡◌, ◌≤◌, ℕ, List, ◌∙◌,
 use Rattle.std.specs.Set.{distinct_count}
 use Rattle.std.proofs.lemmas.Grind.{common_steps}
 use Rattle.std.proofs.lemmas.Option.{slice_get-get_or, slice_get_within}
-use Rattle.bb_netlist.specs.Net.{Gate}
-use Rattle.bb_segment.specs.Cuts.{IsFirstWide}
+use Rattle.bb_base.specs.Net.{Gate}
+use Rattle.bb_terms.specs.Cuts.{IsFirstWide}
 use Rattle.bb_base.proofs.Contained.{contains_at}
 use Rattle.bb_cone.proofs.EntryLemmas.{net_of}
 use Rattle.bb_cone.proofs.PlaceLemmas.{first_wide, narrow_more}

@@ -1,4 +1,4 @@
-use Rattle.bb_creg.proofs.Growth.{length_state, length_signature, length_step}
+use Rattle.bb_terms.proofs.Growth.{length_state, length_signature, length_step}
 use Rattle.bb_creg.proofs.laws.keeps_length.Goals as goal
 
 pub returns-clause-state : goal.returns-clause-state

@@ -1,4 +1,4 @@
-use Rattle.bb_creg.proofs.Growth.{grows}
+use Rattle.bb_terms.proofs.Growth.{grows}
 use Rattle.bb_creg.proofs.laws.signature_grows.Goals as goal
 
 pub returns : goal.returns

@@ -1,7 +1,7 @@
 use Rattle.std.proofs.Common.{◌-◌, true, false, Result, Ok, Err, OnOk, OnErr, ◌≡◌, ⊎_elim, sym, ◌∙◌, subst, arith}
 use Rattle.std.specs.Result.{is_ok}
 use Rattle.std.proofs.lemmas.Bool.{cases_lt}
-use Rattle.bb_creg.specs.Register.{IsFullPeriod}
+use Rattle.bb_terms.specs.Register.{IsFullPeriod}
 use Rattle.bb_creg.proofs.WalkSteps.{size_is}
 use Rattle.bb_creg.proofs.masks.taps.Goals as goal
 

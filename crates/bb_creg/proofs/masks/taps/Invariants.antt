@@ -1,5 +1,5 @@
 use Rattle.std.proofs.Common.{ℕ, ◌<◌}
-use Rattle.bb_creg.specs.Register.{IsFullMask}
+use Rattle.bb_terms.specs.Register.{IsFullMask}
 use Rattle.bb_creg.proofs.masks.taps.Given as goal
 
 -- no mask so far has full period

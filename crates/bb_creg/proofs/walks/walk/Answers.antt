@@ -1,5 +1,5 @@
 use Rattle.std.proofs.Common.{◌≡◌, ◌<◌, ◌^◌, ◌-◌, ◌+◌, sym, ap, ◌∙◌, arith}
-use Rattle.bb_creg.specs.Register.{state_after}
+use Rattle.bb_terms.specs.Register.{state_after}
 use Rattle.bb_creg.proofs.Orbit.{full_from_walk, late_from_full}
 use Rattle.bb_creg.proofs.WalkSteps.{size_is, walked, away_more}
 use Rattle.bb_creg.proofs.walks.walk.Goals as goal

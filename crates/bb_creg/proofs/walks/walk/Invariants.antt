@@ -1,6 +1,6 @@
 use Rattle.std.proofs.Common.{◌≡◌, ◌-◌, ℕ}
-use Rattle.bb_creg.specs.Register.{state_after}
-use Rattle.bb_creg.specs.Walk.{IsAway}
+use Rattle.bb_terms.specs.Register.{state_after}
+use Rattle.bb_terms.specs.Walk.{IsAway}
 use Rattle.bb_creg.proofs.walks.walk.Given as goal
 
 -- the walk has gone so far, and wasn't back before

@@ -1,7 +1,7 @@
 use Rattle.std.proofs.Common.{◌≡◌, ◌++◌, ◌∙◌, refl, ap, subst, length, Some, slice_get}
 use Rattle.std.proofs.lemmas.Option.{slice_get_read}
-use Rattle.bb_rules.specs.Plan.{RegisterValue, chain}
-use Rattle.bb_ctl.specs.Reads.{qs_from}
+use Rattle.bb_terms.specs.Plan.{RegisterValue, chain}
+use Rattle.bb_terms.specs.Reads.{qs_from}
 use Rattle.bb_ctl.proofs.ChainLemmas.{qs_next}
 use Rattle.bb_ctl.proofs.cells.chain_qs.Goals as goal
 

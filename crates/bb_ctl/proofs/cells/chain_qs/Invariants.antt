@@ -1,4 +1,4 @@
-use Rattle.bb_rules.specs.Plan.{chain}
+use Rattle.bb_terms.specs.Plan.{chain}
 use Rattle.bb_ctl.proofs.ChainLemmas.{AreQs}
 use Rattle.bb_ctl.proofs.cells.chain_qs.Given as goal
 

@@ -1,6 +1,6 @@
 use Rattle.std.proofs.Common.{◌≡◌, map, drop}
 use Rattle.std.specs.Prelude.{Some}
-use Rattle.bb_creg.specs.OnBits.{last_of}
+use Rattle.bb_terms.specs.OnBits.{last_of}
 use Rattle.bb_ctl.proofs.cells.last_or.Given as goal
 
 abbrev pub invariant-wires : goal.invariant-wires

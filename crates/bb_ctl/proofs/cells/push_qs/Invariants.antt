@@ -1,5 +1,5 @@
 use Rattle.std.proofs.Common.{◌≡◌, ◌++◌, ◌+◌, length, drop}
-use Rattle.bb_ctl.specs.Reads.{qs_from}
+use Rattle.bb_terms.specs.Reads.{qs_from}
 use Rattle.bb_ctl.proofs.cells.push_qs.Given as goal
 
 abbrev pub invariant-cells : goal.invariant-cells

@@ -1,6 +1,6 @@
 use Rattle.std.proofs.Common.{◌≡◌, ◌∙◌, ap, arith}
-use Rattle.bb_gf2.specs.Bits.{picked}
-use Rattle.bb_ctl.specs.Controller.{word_from}
+use Rattle.bb_base.specs.Bits.{picked}
+use Rattle.bb_terms.specs.Controller.{word_from}
 use Rattle.bb_ctl.proofs.RowLemmas.{feed_is}
 use Rattle.bb_ctl.proofs.controller.push_feed.Goals as goal
 

@@ -1,5 +1,5 @@
 use Rattle.std.proofs.Common.{◌++◌, ◌+◌, ◌-◌}
-use Rattle.bb_ctl.specs.Controller.{ring_rows_from, middle_ring}
+use Rattle.bb_terms.specs.Controller.{ring_rows_from, middle_ring}
 use Rattle.bb_ctl.proofs.RowLemmas.{more, rings_next}
 use Rattle.bb_ctl.proofs.controller.push_later_rings.Goals as goal
 

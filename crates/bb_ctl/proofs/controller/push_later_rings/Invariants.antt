@@ -1,5 +1,5 @@
 use Rattle.std.proofs.Common.{◌≡◌, ◌++◌, ◌-◌}
-use Rattle.bb_ctl.specs.Controller.{ring_rows_from}
+use Rattle.bb_terms.specs.Controller.{ring_rows_from}
 use Rattle.bb_ctl.proofs.controller.push_later_rings.Given as goal
 
 abbrev pub invariant-rings : goal.invariant-rings

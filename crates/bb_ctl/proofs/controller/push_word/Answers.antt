@@ -1,8 +1,8 @@
 use Rattle.std.proofs.Common.{◌++◌, ◌∷◌, [], ◌+◌, ◌-◌}
 use Rattle.bb_base.specs.declared.operator.Op.TheVariants.{And}
-use Rattle.bb_creg.specs.OnBits.{shifted}
-use Rattle.bb_ctl.specs.declared.wire.Wire.TheVariants.{Word, WordNext, Go, Feed}
-use Rattle.bb_ctl.specs.Controller.{gate_row, word_from, word_rows}
+use Rattle.bb_terms.specs.OnBits.{shifted}
+use Rattle.bb_terms.specs.declared.wire.Wire.TheVariants.{Word, WordNext, Go, Feed}
+use Rattle.bb_terms.specs.Controller.{gate_row, word_from, word_rows}
 use Rattle.bb_ctl.proofs.RowLemmas.{more, word_row}
 use Rattle.bb_ctl.proofs.controller.push_word.Goals as goal
 

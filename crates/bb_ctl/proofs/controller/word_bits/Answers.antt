@@ -1,6 +1,6 @@
 use Rattle.std.proofs.Common.{◌∷◌, [], ◌+◌, ◌-◌}
-use Rattle.bb_ctl.specs.declared.wire.Wire.TheVariants.{Word}
-use Rattle.bb_ctl.specs.Controller.{word_from}
+use Rattle.bb_terms.specs.declared.wire.Wire.TheVariants.{Word}
+use Rattle.bb_terms.specs.Controller.{word_from}
 use Rattle.bb_ctl.proofs.RowLemmas.{more, word_next}
 use Rattle.bb_ctl.proofs.controller.word_bits.Goals as goal
 

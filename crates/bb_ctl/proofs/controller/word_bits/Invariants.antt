@@ -1,5 +1,5 @@
 use Rattle.std.proofs.Common.{◌≡◌, ◌++◌, ◌-◌}
-use Rattle.bb_ctl.specs.Controller.{word_from}
+use Rattle.bb_terms.specs.Controller.{word_from}
 use Rattle.bb_ctl.proofs.controller.word_bits.Given as goal
 
 abbrev pub invariant-bits : goal.invariant-bits

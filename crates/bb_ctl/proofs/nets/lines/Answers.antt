@@ -1,12 +1,12 @@
 use Rattle.std.proofs.Common.{◌≡◌, ◌∙◌, length, sym, ap, subst, arith}
 use Rattle.std.specs.List.{AllByRecursion}
-use Rattle.bb_netlist.specs.Net.{HasArity}
-use Rattle.bb_rules.specs.Plan.{PlanValue}
-use Rattle.bb_ctl.specs.declared.wire.Wire.TheVariants.{Latches, Takes, Codes, First}
-use Rattle.bb_ctl.specs.Controller.{word_ahead}
-use Rattle.bb_ctl.specs.Registers.{control_rows}
+use Rattle.bb_base.specs.Net.{HasArity}
+use Rattle.bb_terms.specs.Plan.{PlanValue}
+use Rattle.bb_terms.specs.declared.wire.Wire.TheVariants.{Latches, Takes, Codes, First}
+use Rattle.bb_terms.specs.Controller.{word_ahead}
+use Rattle.bb_terms.specs.Registers.{control_rows}
 use Rattle.bb_ctl.specs.Numbers.{HasNumbers}
-use Rattle.bb_ctl.specs.Numbering.{wires_in, HasWire}
+use Rattle.bb_terms.specs.Numbering.{wires_in, HasWire}
 use Rattle.bb_ctl.specs.ControlNets.{next_wires, of_registers}
 use Rattle.bb_ctl.proofs.ArityLemmas.{rows_have_arities}
 use Rattle.bb_ctl.proofs.CountLemmas.{valid_is_small, valid_has_numbers, rows_are_few}

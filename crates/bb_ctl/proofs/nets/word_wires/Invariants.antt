@@ -1,7 +1,7 @@
 use Rattle.std.proofs.Common.{◌≡◌, ◌++◌, ◌-◌}
-use Rattle.bb_creg.specs.OnBits.{shifted}
-use Rattle.bb_ctl.specs.declared.wire.Wire.TheVariants.{Feed}
-use Rattle.bb_ctl.specs.Controller.{word_from}
+use Rattle.bb_terms.specs.OnBits.{shifted}
+use Rattle.bb_terms.specs.declared.wire.Wire.TheVariants.{Feed}
+use Rattle.bb_terms.specs.Controller.{word_from}
 use Rattle.bb_ctl.proofs.nets.word_wires.Given as goal
 
 abbrev pub invariant-bits : goal.invariant-bits

@@ -1,10 +1,10 @@
 use Rattle.std.proofs.Common.{◌≡◌, ◌∷◌, List, Some, slice_get, length, map, take, refl, sym, subst}
 use Rattle.std.proofs.lemmas.Option.{slice_get_read}
 use Rattle.std.specs.List.{AllByRecursion}
-use Rattle.bb_netlist.specs.Net.{Gate, renamed_gate}
-use Rattle.bb_net.specs.Named.{Named}
-use Rattle.bb_ctl.specs.declared.wire.Wire.{Wire}
-use Rattle.bb_ctl.specs.Numbering.{net_at, HasWire}
+use Rattle.bb_base.specs.Net.{Gate, renamed_gate}
+use Rattle.bb_base.specs.Named.{Named}
+use Rattle.bb_terms.specs.declared.wire.Wire.{Wire}
+use Rattle.bb_terms.specs.Numbering.{net_at, HasWire}
 use Rattle.bb_ctl.proofs.NetLemmas.{all_still_stand, row_stands, row_added}
 use Rattle.bb_ctl.proofs.numbering.add_rows.Goals as goal
 

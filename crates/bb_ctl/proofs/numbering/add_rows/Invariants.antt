@@ -1,7 +1,7 @@
 use Rattle.std.proofs.Common.{◌≡◌, map, take}
-use Rattle.bb_netlist.specs.Net.{renamed_gate}
-use Rattle.bb_net.specs.Building.{with_gates}
-use Rattle.bb_ctl.specs.Numbering.{net_at}
+use Rattle.bb_base.specs.Net.{renamed_gate}
+use Rattle.bb_base.specs.Building.{with_gates}
+use Rattle.bb_terms.specs.Numbering.{net_at}
 use Rattle.bb_ctl.proofs.numbering.add_rows.Given as goal
 
 abbrev pub invariant-rows : goal.invariant-rows

@@ -1,8 +1,8 @@
 use Rattle.std.proofs.Common.{◌≡◌, ◌≤◌, ◌<◌, ◌∙◌, Some, Err, slice_get, length, sym, ap, subst, arith}
 use Rattle.bb_base.specs.declared.variable.BitName.{BitName}
 use Rattle.bb_base.specs.Variables.{bit_at}
-use Rattle.bb_net.specs.Named.{Named}
-use Rattle.bb_net.specs.Building.{with_net, net_limit}
+use Rattle.bb_base.specs.Named.{Named}
+use Rattle.bb_base.specs.Building.{with_net, net_limit}
 use Rattle.bb_ctl.proofs.NetLemmas.{called, first_bit_stands, net_is_no_clock, one_net, net_stands, none_made, only_memory_of_net}
 use Rattle.bb_ctl.proofs.numbering.net_called.Goals as goal
 

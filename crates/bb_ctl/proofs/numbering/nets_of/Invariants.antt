@@ -1,5 +1,5 @@
 use Rattle.std.proofs.Common.{◌≡◌, ◌<◌, All, length, map, take}
-use Rattle.bb_ctl.specs.Numbering.{net_at}
+use Rattle.bb_terms.specs.Numbering.{net_at}
 use Rattle.bb_ctl.proofs.numbering.nets_of.Given as goal
 
 abbrev pub invariant-wires : goal.invariant-wires

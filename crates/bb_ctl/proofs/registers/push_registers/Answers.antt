@@ -1,8 +1,8 @@
 use Rattle.std.proofs.Common.{arith, ◌≡◌, ◌≤◌, ◌<◌, ◌++◌, ◌∙◌, [], List, ℕ, None, refl, sym, ap, subst, length, take, drop, Some, slice_get}
 use Rattle.std.proofs.lemmas.Grind.{common_steps}
 use Rattle.std.proofs.lemmas.Option.{slice_get_read, get_or_from_slice_get}
-use Rattle.bb_rules.specs.Plan.{RegisterValue, sessions_of}
-use Rattle.bb_ctl.specs.Registers.{rows_of_register, registers_from}
+use Rattle.bb_terms.specs.Plan.{RegisterValue, sessions_of}
+use Rattle.bb_terms.specs.Registers.{rows_of_register, registers_from}
 use Rattle.bb_ctl.proofs.ChainLemmas.{built_first, built_more, built_room, built_all}
 use Rattle.bb_ctl.proofs.registers.push_registers.Goals as goal
 

@@ -1,5 +1,5 @@
 use Rattle.std.proofs.Common.{◌++◌, None}
-use Rattle.bb_ctl.specs.Registers.{registers_from}
+use Rattle.bb_terms.specs.Registers.{registers_from}
 use Rattle.bb_ctl.proofs.ChainLemmas.{AreBuilt}
 use Rattle.bb_ctl.proofs.registers.push_registers.Given as goal
 

@@ -1,5 +1,5 @@
 use Rattle.std.proofs.Common.{◌≡◌, map, take}
-use Rattle.bb_ctl.specs.declared.wire.Wire.TheVariants.{Ring}
+use Rattle.bb_terms.specs.declared.wire.Wire.TheVariants.{Ring}
 use Rattle.bb_ctl.proofs.registers.rings_of.Given as goal
 
 abbrev pub invariant-sessions : goal.invariant-sessions

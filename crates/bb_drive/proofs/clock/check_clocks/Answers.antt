@@ -2,7 +2,7 @@ use Rattle.std.proofs.Common.{◌∙◌, sym, ap, Some, None, ℕ, List}
 use Rattle.std.specs.Prelude.{Option}
 use Rattle.bb_fault.specs.declared.fault.ElabFault.TheVariants.{TwoClocks}
 use Rattle.bb_fault.specs.Firsts.{on_some}
-use Rattle.bb_drive.specs.Work.{Work}
+use Rattle.bb_fault.specs.Work.{Work}
 use Rattle.bb_drive.specs.Nets.{bit_text}
 use Rattle.bb_drive.specs.Origins.{other_label}
 use Rattle.bb_drive.proofs.ClockBits.{clock_inside, other_inside}

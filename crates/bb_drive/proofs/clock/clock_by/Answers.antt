@@ -1,7 +1,7 @@
 use Rattle.std.proofs.Common.{◌<◌, ◌∙◌, ap, arith, false, length, Some}
 use Rattle.std.proofs.lemmas.Option.{slice_get-get_or}
 use Rattle.std.specs.Option.{option_or}
-use Rattle.bb_drive.specs.Work.{Work}
+use Rattle.bb_fault.specs.Work.{Work}
 use Rattle.bb_drive.specs.Clock.{clock_not_input, two_clocks, clock_as_data}
 use Rattle.bb_drive.specs.Origins.{entry_at, is_marked, first_label, is_data_label}
 use Rattle.bb_drive.proofs.ClockLaws.{pins_fed, first_origin, data_is}

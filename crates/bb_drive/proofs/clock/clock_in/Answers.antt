@@ -1,5 +1,5 @@
 use Rattle.std.proofs.Common.{ap}
-use Rattle.bb_drive.specs.Work.{Work}
+use Rattle.bb_fault.specs.Work.{Work}
 use Rattle.bb_drive.proofs.ClockLaws.{roots_free, labels_fed}
 use Rattle.bb_drive.proofs.clock.clock_in.Goals as goal
 

@@ -1,5 +1,5 @@
 use Rattle.std.proofs.Common.{take, map}
-use Rattle.bb_drive.specs.Work.{Clocked}
+use Rattle.bb_fault.specs.Work.{Clocked}
 use Rattle.bb_drive.specs.Origins.{AreMarked}
 use Rattle.bb_drive.proofs.marks.mark_d_pins.Given as goal
 

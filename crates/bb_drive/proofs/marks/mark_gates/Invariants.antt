@@ -1,6 +1,6 @@
 use Rattle.std.proofs.Common.{ℕ, [], take}
 use Rattle.std.specs.Prelude.{flat_map, if◌then◌else◌}
-use Rattle.bb_netlist.specs.Net.{Gate}
+use Rattle.bb_base.specs.Net.{Gate}
 use Rattle.bb_drive.specs.Clock.{is_buf}
 use Rattle.bb_drive.specs.Origins.{AreMarked}
 use Rattle.bb_drive.proofs.marks.mark_gates.Given as goal

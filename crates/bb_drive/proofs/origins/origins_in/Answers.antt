@@ -1,7 +1,7 @@
 use Rattle.std.proofs.Common.{◌≡◌, ◌<◌, ◌∙◌, ℕ, List, sym, ap, arith, length, Some}
 use Rattle.std.specs.Prelude.{Option}
-use Rattle.bb_netlist.specs.Net.{Gate}
-use Rattle.bb_drive.specs.Work.{Work}
+use Rattle.bb_base.specs.Net.{Gate}
+use Rattle.bb_fault.specs.Work.{Work}
 use Rattle.bb_drive.specs.Within.{IsWithin}
 use Rattle.bb_drive.specs.Clock.{copied_net}
 use Rattle.bb_drive.specs.Origins.{entry_at}

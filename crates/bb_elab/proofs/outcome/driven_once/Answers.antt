@@ -6,11 +6,11 @@ use Rattle.bb_fault.specs.declared.fault.ElabFault.TheVariants.{NoMemory}
 use Rattle.bb_parse.specs.declared.syntax.Module.{Module}
 use Rattle.bb_scope.specs.Answers.{IsAnswer}
 use Rattle.bb_scope.specs.Variables.{variables}
-use Rattle.bb_width.specs.Text.{text_fault}
+use Rattle.bb_scope.specs.Text.{text_fault}
 use Rattle.bb_drive.specs.Clock.{clock_fault}
 use Rattle.bb_targets.specs.Targets.{twice_fault}
 use Rattle.bb_targets.proofs.Twice.{told}
-use Rattle.bb_elab.specs.Outcome.{net_fault, variables_in, work_in}
+use Rattle.bb_meaning.specs.Outcome.{net_fault, variables_in, work_in}
 use Rattle.bb_elab.proofs.PortLaws.{fine_text}
 use Rattle.bb_elab.proofs.outcome.driven_once.Goals as goal
 

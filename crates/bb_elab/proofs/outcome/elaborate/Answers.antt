@@ -1,8 +1,8 @@
 use Rattle.std.proofs.Common.{inl, ◌≢◌, Err, None, Some}
 use Rattle.bb_fault.specs.declared.fault.ElabFault.TheVariants.{NoMemory}
-use Rattle.bb_elab.specs.Outcome.{IsOutcome}
+use Rattle.bb_meaning.specs.Outcome.{IsOutcome}
 use Rattle.bb_drive.proofs.Passed.{passed}
-use Rattle.bb_elab.proofs.CountedFault.{text_first, nets_first}
+use Rattle.bb_meaning.proofs.CountedFault.{text_first, nets_first}
 use Rattle.bb_elab.proofs.LoopLaws.{refused}
 use Rattle.bb_elab.proofs.outcome.elaborate.Goals as goal
 

@@ -1,15 +1,15 @@
 use Rattle.std.proofs.Common.{arith, sym, subst, All, ap, ◌∙◌}
 use Rattle.bb_base.specs.Variables.{IsEntry, bit_count}
 use Rattle.std.proofs.lemmas.List.Elements.{All-from_recursion}
-use Rattle.bb_netlist.specs.Net.{HasArity}
-use Rattle.bb_drive.specs.Work.{Work}
+use Rattle.bb_base.specs.Net.{HasArity}
+use Rattle.bb_fault.specs.Work.{Work}
 use Rattle.bb_drive.specs.Within.{IsWithin}
-use Rattle.bb_elab.specs.Outcome.{work_in}
+use Rattle.bb_meaning.specs.Outcome.{work_in}
 use Rattle.bb_elab.proofs.NameLaws.{bits_are_all}
 use Rattle.bb_elab.proofs.Arities.{module-fits}
 use Rattle.bb_assemble.specs.Assembling.{ArePortsFirst}
 use Rattle.bb_elab.proofs.PortLaws.{fine_text, all_entries, ports_stand_first}
-use Rattle.bb_meaning.proofs.Counting.{module-fresh}
+use Rattle.bb_scope.proofs.Counting.{module-fresh}
 use Rattle.bb_elab.proofs.WithinLaws.{work_within}
 use Rattle.bb_elab.proofs.outcome.named_in.Goals as goal
 

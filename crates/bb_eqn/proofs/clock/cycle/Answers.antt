@@ -1,5 +1,5 @@
 use Rattle.std.proofs.Common.{arith, ◌≡◌, ◌<◌, ℕ, List, sym, subst, length, All}
-use Rattle.bb_netlist.specs.Net.{Flop, driven}
+use Rattle.bb_base.specs.Net.{Flop, driven}
 use Rattle.bb_eqn.proofs.Settled.{taken_below}
 use Rattle.bb_eqn.proofs.clock.cycle.Goals as goal
 

@@ -1,8 +1,8 @@
 use Rattle.std.proofs.Common.{arith, ◌≡◌, ◌<◌, ◌≤◌, ℕ, List, sym, subst, length, map, All, []}
 use Rattle.std.specs.List.{AllByRecursion}
-use Rattle.bb_netlist.specs.Net.{Gate, Flop, driven, times}
-use Rattle.bb_netlist.specs.Order.{drivers}
-use Rattle.bb_netlist.specs.Run.{Meets}
+use Rattle.bb_base.specs.Net.{Gate, Flop, driven, times}
+use Rattle.bb_base.specs.Order.{drivers}
+use Rattle.bb_base.specs.Run.{Meets}
 use Rattle.bb_eqn.specs.Values.{bits_at}
 use Rattle.bb_eqn.proofs.Settled.{settled, inputs_once, states_once, outs_once, states_below, outs_below, ins_below}
 use Rattle.bb_eqn.proofs.clock.settle.Goals as goal

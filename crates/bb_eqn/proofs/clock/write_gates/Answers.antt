@@ -1,7 +1,7 @@
 use Rattle.std.proofs.Common.{arith, rules, ◌<◌, ◌≤◌, ℕ, List, Bool, ap, ◌∙◌, sym, subst, length, All}
 use Rattle.std.specs.List.{AllByRecursion}
-use Rattle.bb_netlist.specs.Net.{Gate}
-use Rattle.bb_netlist.specs.Run.{Meets}
+use Rattle.bb_base.specs.Net.{Gate}
+use Rattle.bb_base.specs.Run.{Meets}
 use Rattle.bb_eqn.specs.Values.{bits_at}
 use Rattle.bb_eqn.proofs.Evaluated.{evaluated, evaluated_kept}
 use Rattle.bb_eqn.proofs.Picked.{picked, picked_step, picked_end, none_still}

@@ -1,5 +1,5 @@
 use Rattle.std.proofs.Common.{arith, List, Bool, ap, ◌∙◌, map, length, ◌≤◌}
-use Rattle.bb_netlist.specs.Net.{Flop}
+use Rattle.bb_base.specs.Net.{Flop}
 use Rattle.bb_eqn.specs.Values.{bits_at}
 use Rattle.bb_eqn.proofs.Written.{written, states_end, states_all, written_kept}
 use Rattle.bb_eqn.proofs.clock.write_states.Goals as goal

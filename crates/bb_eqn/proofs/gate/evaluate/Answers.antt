@@ -1,7 +1,7 @@
 use Rattle.std.proofs.Common.{arith, ◌<◌, ◌≤◌, List, Bool, ap, ◌∙◌, sym, subst, length}
 use Rattle.std.proofs.lemmas.List.Elements.{recursion_from_All}
 use Rattle.std.specs.List.{AllByRecursion}
-use Rattle.bb_netlist.specs.Run.{Meets}
+use Rattle.bb_base.specs.Run.{Meets}
 use Rattle.bb_eqn.specs.Values.{bits_at}
 use Rattle.bb_eqn.proofs.Evaluated.{evaluated, evaluated_end, evaluated_met, evaluated_kept}
 use Rattle.bb_eqn.proofs.gate.evaluate.Goals as goal

@@ -1,6 +1,6 @@
 use Rattle.std.proofs.Common.{subst}
-use Rattle.bb_creg.specs.Register.{IsFullPeriod}
-use Rattle.bb_rules.specs.Plan.{PlanValue}
+use Rattle.bb_terms.specs.Register.{IsFullPeriod}
+use Rattle.bb_terms.specs.Plan.{PlanValue}
 use Rattle.bb_fits.proofs.bounds.period.Goals as goal
 
 pub returns-in-Ok : goal.returns-in-Ok

@@ -1,4 +1,4 @@
-use Rattle.bb_rules.specs.Rules.{IsRegister}
+use Rattle.bb_terms.specs.Rules.{IsRegister}
 use Rattle.bb_fits.proofs.FirstWrong.{HoldsBefore}
 use Rattle.bb_fits.proofs.bounds.registers.Given as goal
 

@@ -1,5 +1,5 @@
 use Rattle.std.proofs.Common.{◌≡◌, ℕ, List, Bool, length, subst, sym, ap, ◌∙◌}
-use Rattle.bb_rules.specs.Plan.{RegisterValue, PlanValue}
+use Rattle.bb_terms.specs.Plan.{RegisterValue, PlanValue}
 use Rattle.bb_fits.specs.Tables.{IsFound}
 use Rattle.bb_fits.specs.Tables.{AreListed, IsListedIn}
 use Rattle.bb_fits.proofs.Listings.{compacted_answer}

@@ -1,5 +1,5 @@
 use Rattle.std.proofs.Common.{◌≡◌, ◌||◌, ℕ, ◌<◌, false, length, take, get_or}
-use Rattle.bb_rules.specs.Plan.{lists_register}
+use Rattle.bb_terms.specs.Plan.{lists_register}
 use Rattle.bb_fits.proofs.compacting.mark_session.Given as goal
 
 abbrev pub invariant-listed : goal.invariant-listed

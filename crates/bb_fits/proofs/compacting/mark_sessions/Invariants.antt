@@ -1,6 +1,6 @@
 use Rattle.std.proofs.Common.{◌≡◌, ◌||◌, ℕ, ◌<◌, false, length, take, get_or}
 use Rattle.std.specs.List.{list_any}
-use Rattle.bb_rules.specs.Plan.{lists_register}
+use Rattle.bb_terms.specs.Plan.{lists_register}
 use Rattle.bb_fits.proofs.compacting.mark_sessions.Given as goal
 
 abbrev pub invariant-sessions : goal.invariant-sessions

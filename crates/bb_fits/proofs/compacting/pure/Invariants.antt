@@ -1,4 +1,4 @@
-use Rattle.bb_rules.specs.Rules.{IsPure}
+use Rattle.bb_terms.specs.Rules.{IsPure}
 use Rattle.bb_fits.proofs.FirstWrong.{HoldsBefore}
 use Rattle.bb_fits.proofs.compacting.pure.Given as goal
 

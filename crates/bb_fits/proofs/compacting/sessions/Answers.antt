@@ -1,6 +1,6 @@
 use Rattle.std.proofs.Common.{◌≡◌, ◌<◌, length, get_or, slice_get, Some, arith, ap, sym, subst, ◌∙◌}
-use Rattle.bb_rules.specs.Plan.{PlanValue}
-use Rattle.bb_rules.specs.Rules.{IsSession}
+use Rattle.bb_terms.specs.Plan.{PlanValue}
+use Rattle.bb_terms.specs.Rules.{IsSession}
 use Rattle.bb_fits.specs.Tables.{MayBeSession}
 use Rattle.bb_fits.proofs.FirstWrong.{item_at, none_wrong}
 use Rattle.bb_fits.proofs.Listings.{too_many, one_session, one_count}

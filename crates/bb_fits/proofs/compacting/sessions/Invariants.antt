@@ -1,6 +1,6 @@
 use Rattle.std.proofs.Common.{◌≡◌, ◌≤◌, length, take}
 use Rattle.std.specs.List.{flat_map}
-use Rattle.bb_rules.specs.Rules.{IsSession}
+use Rattle.bb_terms.specs.Rules.{IsSession}
 use Rattle.bb_fits.proofs.FirstWrong.{HoldsBefore}
 use Rattle.bb_fits.proofs.compacting.sessions.Given as goal
 

@@ -1,7 +1,7 @@
 use Rattle.std.proofs.Common.{List, refl, arith, subst}
 use Rattle.bb_base.specs.Places.{EachAt}
-use Rattle.bb_rules.specs.declared.plan.Cell.{Cell}
-use Rattle.bb_rules.specs.Rules.{Kinds, Apart, Served, Fits}
+use Rattle.bb_terms.specs.declared.plan.Cell.{Cell}
+use Rattle.bb_terms.specs.Rules.{Kinds, Apart, Served, Fits}
 use Rattle.bb_fits.specs.Answers.{IsVerdict}
 use Rattle.bb_fits.proofs.Stages.{meets_more, first_fault, some_plan}
 use Rattle.bb_fits.proofs.first.cell_misfit.Goals as goal

@@ -1,5 +1,5 @@
 use Rattle.std.proofs.Common.{refl, arith}
-use Rattle.bb_rules.specs.Rules.{Room, Columns}
+use Rattle.bb_terms.specs.Rules.{Room, Columns}
 use Rattle.bb_fits.proofs.Stages.{meets_more, first_fault}
 use Rattle.bb_fits.proofs.first.number_misfit.Goals as goal
 

@@ -1,5 +1,5 @@
 use Rattle.std.proofs.Common.{refl, arith}
-use Rattle.bb_rules.specs.Rules.{Frame, Registers}
+use Rattle.bb_terms.specs.Rules.{Frame, Registers}
 use Rattle.bb_fits.proofs.Stages.{meets_none, meets_more, first_fault}
 use Rattle.bb_fits.proofs.first.register_misfit.Goals as goal
 

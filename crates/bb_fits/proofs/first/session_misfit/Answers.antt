@@ -1,5 +1,5 @@
 use Rattle.std.proofs.Common.{refl, arith, subst}
-use Rattle.bb_rules.specs.Rules.{Pure, Sessions, Compacted}
+use Rattle.bb_terms.specs.Rules.{Pure, Sessions, Compacted}
 use Rattle.bb_fits.specs.Answers.{IsVerdict}
 use Rattle.bb_fits.proofs.Stages.{meets_more, first_fault}
 use Rattle.bb_fits.proofs.first.session_misfit.Goals as goal

@@ -1,7 +1,7 @@
 use Rattle.std.proofs.Common.{◌≡◌, ◌<◌, length, get_or, arith, sym, subst, ◌∙◌, true, false, Bool, below_more}
 use Rattle.bb_base.specs.Places.{IsFirstWrong}
-use Rattle.bb_netlist.specs.Net.{driven}
-use Rattle.bb_rules.specs.Rules.{IsServed, net_numbers}
+use Rattle.bb_base.specs.Net.{driven}
+use Rattle.bb_terms.specs.Rules.{IsServed, net_numbers}
 use Rattle.bb_fits.specs.Tables.{blank, is_served}
 use Rattle.bb_fits.proofs.FirstWrong.{number_wrong, each_number}
 use Rattle.bb_fits.proofs.Driven.{served_by, served_has}

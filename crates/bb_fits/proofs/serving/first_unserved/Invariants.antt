@@ -1,7 +1,7 @@
 use Rattle.std.proofs.Common.{ℕ, ◌<◌, length}
-use Rattle.bb_netlist.specs.Net.{driven}
-use Rattle.bb_rules.specs.Plan.{PlanValue, chain}
-use Rattle.bb_rules.specs.Rules.{IsServed}
+use Rattle.bb_base.specs.Net.{driven}
+use Rattle.bb_terms.specs.Plan.{PlanValue, chain}
+use Rattle.bb_terms.specs.Rules.{IsServed}
 use Rattle.bb_fits.specs.Tables.{AreStanding}
 use Rattle.bb_fits.proofs.serving.first_unserved.Given as goal
 

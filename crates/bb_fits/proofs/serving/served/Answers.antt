@@ -1,7 +1,7 @@
 use Rattle.std.proofs.Common.{List, length, subst, sym}
-use Rattle.bb_netlist.specs.Net.{driven}
-use Rattle.bb_rules.specs.declared.plan.Cell.{Cell}
-use Rattle.bb_rules.specs.Plan.{chain}
+use Rattle.bb_base.specs.Net.{driven}
+use Rattle.bb_terms.specs.declared.plan.Cell.{Cell}
+use Rattle.bb_terms.specs.Plan.{chain}
 use Rattle.bb_fits.specs.declared.table.OnNet.{OnNet}
 use Rattle.bb_fits.specs.Tables.{AreStanding}
 use Rattle.bb_fits.proofs.Driven.{served_answer}

@@ -1,7 +1,7 @@
 use Rattle.std.proofs.Common.{List, subst, arith}
 use Rattle.bb_base.specs.Places.{EachAt}
-use Rattle.bb_rules.specs.declared.plan.Cell.{Cell}
-use Rattle.bb_rules.specs.Rules.{IsColumn}
+use Rattle.bb_terms.specs.declared.plan.Cell.{Cell}
+use Rattle.bb_terms.specs.Rules.{IsColumn}
 use Rattle.bb_fits.proofs.FirstWrong.{none_wrong}
 use Rattle.bb_fits.proofs.standing.columns.Goals as goal
 

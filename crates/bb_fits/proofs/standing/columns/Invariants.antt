@@ -1,4 +1,4 @@
-use Rattle.bb_rules.specs.Rules.{IsColumn}
+use Rattle.bb_terms.specs.Rules.{IsColumn}
 use Rattle.bb_fits.proofs.FirstWrong.{HoldsBefore}
 use Rattle.bb_fits.proofs.standing.columns.Given as goal
 

@@ -1,6 +1,6 @@
 use Rattle.std.proofs.Common.{◌≡◌, ◌<◌, length, take, get_or, slice_get, Some, arith, ap, sym, subst, ◌∙◌, true, false}
 use Rattle.std.proofs.lemmas.Grind.{common_steps}
-use Rattle.bb_rules.specs.declared.plan.Cell.{Cell}
+use Rattle.bb_terms.specs.declared.plan.Cell.{Cell}
 use Rattle.bb_fits.specs.declared.table.OnNet.{OnNet}
 use Rattle.bb_fits.specs.Tables.{blank, meets, on_net, IsApartIn}
 use Rattle.bb_fits.proofs.FirstWrong.{item_at, wrong_here, one_more, none_wrong}

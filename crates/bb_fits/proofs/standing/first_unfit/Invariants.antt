@@ -1,4 +1,4 @@
-use Rattle.bb_rules.specs.Rules.{Fits}
+use Rattle.bb_terms.specs.Rules.{Fits}
 use Rattle.bb_fits.proofs.FirstWrong.{HoldsBefore}
 use Rattle.bb_fits.proofs.standing.first_unfit.Given as goal
 

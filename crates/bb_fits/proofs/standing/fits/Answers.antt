@@ -1,6 +1,6 @@
 use Rattle.std.proofs.Common.{◌≡◌, ◌<◌, length, get_or, arith, ap, sym, ◌∙◌, false, Bool, nat_eq}
 use Rattle.std.specs.List.{list_any}
-use Rattle.bb_netlist.specs.Net.{driven}
+use Rattle.bb_base.specs.Net.{driven}
 use Rattle.bb_fits.proofs.Driven.{stand_is, stands_within}
 use Rattle.bb_fits.proofs.standing.fits.Goals as goal
 

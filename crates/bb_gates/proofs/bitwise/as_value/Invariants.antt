@@ -1,5 +1,5 @@
 use Rattle.std.proofs.Common.{◌≡◌, take}
-use Rattle.bb_gates.specs.Making.{as_value}
+use Rattle.bb_scope.specs.Making.{as_value}
 use Rattle.bb_gates.proofs.bitwise.as_value.Given as goal
 
 abbrev pub invariant-loop-net : goal.invariant-loop-net

@@ -1,8 +1,8 @@
 use Rattle.std.proofs.Common.{arith, ◌≡◌, ◌<◌, ◌+◌, ◌^◌, ℕ, List, ◌∷◌, drop, ap}
 use Rattle.std.proofs.lemmas.Grind.{common_steps}
 use Rattle.std.specs.Prelude.{Option}
-use Rattle.bb_drive.specs.Work.{Work}
-use Rattle.bb_gates.specs.Making.{Outs, first_out, other_outs, each_choice}
+use Rattle.bb_fault.specs.Work.{Work}
+use Rattle.bb_scope.specs.Making.{Outs, first_out, other_outs, each_choice}
 use Rattle.bb_gates.specs.Targets.{outs_in, outs_after, one_choice}
 use Rattle.bb_gates.proofs.Grounding.{choice_goes_on}
 use Rattle.bb_gates.proofs.Growing.{each-grows}

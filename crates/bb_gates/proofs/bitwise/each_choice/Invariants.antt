@@ -1,5 +1,5 @@
 use Rattle.std.proofs.Common.{◌≡◌, ◌++◌, drop}
-use Rattle.bb_gates.specs.Making.{each_choice}
+use Rattle.bb_scope.specs.Making.{each_choice}
 use Rattle.bb_gates.specs.Targets.{outs_in, outs_after}
 use Rattle.bb_gates.proofs.bitwise.each_choice.Given as goal
 

@@ -2,8 +2,8 @@ use Rattle.std.proofs.Common.{arith, ◌≡◌, ◌<◌, ◌+◌, ◌^◌, ℕ, 
 use Rattle.std.proofs.lemmas.Grind.{common_steps}
 use Rattle.std.specs.Prelude.{Option}
 use Rattle.bb_base.specs.declared.operator.Op.{Op}
-use Rattle.bb_drive.specs.Work.{Work, make_onto}
-use Rattle.bb_gates.specs.Making.{Outs, first_out, other_outs, each_pair}
+use Rattle.bb_fault.specs.Work.{Work, make_onto}
+use Rattle.bb_scope.specs.Making.{Outs, first_out, other_outs, each_pair}
 use Rattle.bb_gates.specs.Targets.{outs_in, outs_after}
 use Rattle.bb_gates.proofs.Grounding.{after_next}
 use Rattle.bb_gates.proofs.Growing.{pair-grows}

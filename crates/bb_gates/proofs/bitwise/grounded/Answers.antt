@@ -1,9 +1,9 @@
 use Rattle.std.proofs.Common.{arith, ◌≡◌, ◌<◌, ◌+◌, ◌^◌, ℕ, Bool, List, ◌∷◌, [], drop, ap}
 use Rattle.std.proofs.lemmas.Grind.{common_steps}
-use Rattle.bb_drive.specs.Work.{Work, make, constant}
-use Rattle.bb_gates.specs.declared.value.Bit.{Bit}
-use Rattle.bb_gates.specs.declared.value.Bit.TheVariants.{Fixed}
-use Rattle.bb_gates.specs.Making.{grounded}
+use Rattle.bb_fault.specs.Work.{Work, make, constant}
+use Rattle.bb_scope.specs.declared.value.Bit.{Bit}
+use Rattle.bb_scope.specs.declared.value.Bit.TheVariants.{Fixed}
+use Rattle.bb_scope.specs.Making.{grounded}
 use Rattle.bb_gates.proofs.Growing.{grounded-grows}
 use Rattle.bb_gates.proofs.bitwise.grounded.Goals as goal
 

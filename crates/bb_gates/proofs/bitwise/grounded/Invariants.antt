@@ -1,5 +1,5 @@
 use Rattle.std.proofs.Common.{◌≡◌, ◌++◌, drop}
-use Rattle.bb_gates.specs.Making.{grounded}
+use Rattle.bb_scope.specs.Making.{grounded}
 use Rattle.bb_gates.proofs.bitwise.grounded.Given as goal
 
 abbrev pub invariant-loop-bit : goal.invariant-loop-bit

@@ -1,6 +1,6 @@
 use Rattle.std.proofs.Common.{◌≡◌, ap, sym, ◌∙◌}
 use Rattle.std.specs.Prelude.{slice_get}
-use Rattle.bb_gates.specs.Making.{first_out}
+use Rattle.bb_scope.specs.Making.{first_out}
 use Rattle.bb_gates.specs.Targets.{outs_in, outs_after}
 use Rattle.bb_gates.proofs.Grounding.{new_first, target_first, got}
 use Rattle.bb_gates.proofs.bitwise.target_at.Goals as goal

@@ -1,5 +1,5 @@
 use Rattle.std.proofs.Common.{◌≡◌, ◌++◌, drop, map}
-use Rattle.bb_gates.specs.Making.{all_nets}
+use Rattle.bb_scope.specs.Making.{all_nets}
 use Rattle.bb_gates.proofs.cell_gates.all_nets.Given as goal
 
 abbrev pub invariant-loop-part : goal.invariant-loop-part

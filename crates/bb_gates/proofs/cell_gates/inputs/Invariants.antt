@@ -1,6 +1,6 @@
 use Rattle.std.proofs.Common.{◌≡◌, ◌++◌, drop, map}
 use Rattle.bb_scope.specs.Kinds.{texts}
-use Rattle.bb_gates.specs.Making.{nets_of}
+use Rattle.bb_scope.specs.Making.{nets_of}
 use Rattle.bb_gates.proofs.cell_gates.inputs.Given as goal
 
 abbrev pub invariant-loop-name : goal.invariant-loop-name

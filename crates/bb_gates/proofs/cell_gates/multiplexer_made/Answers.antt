@@ -2,8 +2,8 @@ use Rattle.std.proofs.Common.{arith, ◌≡◌, ◌<◌, ◌^◌, ℕ, List, ◌
 use Rattle.std.proofs.lemmas.Grind.{common_steps}
 use Rattle.std.specs.Borrow.{Bor}
 use Rattle.bb_base.specs.declared.operator.Op.TheVariants.{Not}
-use Rattle.bb_drive.specs.Work.{Work, make}
-use Rattle.bb_gates.specs.Making.{Outs, multiplexer_made}
+use Rattle.bb_fault.specs.Work.{Work, make}
+use Rattle.bb_scope.specs.Making.{Outs, multiplexer_made}
 use Rattle.bb_gates.specs.Targets.{outs_in}
 use Rattle.bb_gates.proofs.Growing.{each-grows}
 use Rattle.bb_gates.proofs.cell_gates.multiplexer_made.Goals as goal

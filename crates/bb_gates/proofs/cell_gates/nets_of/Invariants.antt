@@ -1,5 +1,5 @@
 use Rattle.std.proofs.Common.{◌≡◌, drop}
-use Rattle.bb_gates.specs.Making.{nets_of}
+use Rattle.bb_scope.specs.Making.{nets_of}
 use Rattle.bb_gates.proofs.cell_gates.nets_of.Given as goal
 
 abbrev pub invariant-loop-pin : goal.invariant-loop-pin

@@ -1,6 +1,6 @@
 use Rattle.std.proofs.Common.{◌≡◌, drop}
 use Rattle.bb_scope.specs.Kinds.{kind_value}
-use Rattle.bb_gates.specs.Making.{out_of}
+use Rattle.bb_scope.specs.Making.{out_of}
 use Rattle.bb_scope.specs.Uses.{AreNext, pins_names}
 use Rattle.bb_gates.proofs.cell_gates.out_of.Given as goal
 

@@ -6,8 +6,8 @@ use Rattle.bb_base.specs.Variables.{Entry}
 use Rattle.bb_parse.specs.declared.syntax.Step.{Step}
 use Rattle.bb_scope.specs.Cells.{Kind, Pin}
 use Rattle.bb_scope.specs.Kinds.{kind_value}
-use Rattle.bb_drive.specs.Work.{Work}
-use Rattle.bb_gates.specs.Making.{Read, terminal_made, pins_made}
+use Rattle.bb_fault.specs.Work.{Work}
+use Rattle.bb_scope.specs.Making.{Read, terminal_made, pins_made}
 use Rattle.bb_gates.proofs.Growing.{pin-grows}
 use Rattle.bb_scope.specs.Names.{pin_names}
 use Rattle.bb_scope.specs.Uses.{AreNext}

@@ -4,8 +4,8 @@ use Rattle.bb_base.specs.Variables.{Entry}
 use Rattle.bb_parse.specs.declared.syntax.Item.{Item}
 use Rattle.bb_scope.specs.Names.{item_names}
 use Rattle.bb_scope.proofs.UseLaws.{next_item, next_items}
-use Rattle.bb_drive.specs.Work.{Work}
-use Rattle.bb_gates.specs.Making.{item_made, items_made}
+use Rattle.bb_fault.specs.Work.{Work}
+use Rattle.bb_scope.specs.Making.{item_made, items_made}
 use Rattle.bb_gates.proofs.Growing.{items-grow}
 use Rattle.bb_gates.proofs.items.items_made.Goals as goal
 

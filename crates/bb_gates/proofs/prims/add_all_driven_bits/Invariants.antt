@@ -1,6 +1,6 @@
 use Rattle.std.proofs.Common.{◌≡◌, ◌++◌, drop}
 use Rattle.std.specs.Prelude.{flat_map}
-use Rattle.bb_gates.specs.Making.{driven_bits}
+use Rattle.bb_scope.specs.Making.{driven_bits}
 use Rattle.bb_scope.specs.Names.{steps_names}
 use Rattle.bb_scope.specs.Uses.{AreNext}
 use Rattle.bb_gates.proofs.prims.add_all_driven_bits.Given as goal

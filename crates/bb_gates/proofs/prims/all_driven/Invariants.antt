@@ -1,5 +1,5 @@
 use Rattle.std.proofs.Common.{◌≡◌, drop}
-use Rattle.bb_gates.specs.Making.{all_driven}
+use Rattle.bb_scope.specs.Making.{all_driven}
 use Rattle.bb_gates.proofs.prims.all_driven.Given as goal
 
 abbrev pub invariant-loop-target : goal.invariant-loop-target

@@ -4,8 +4,8 @@ use Rattle.bb_base.specs.Variables.{Entry}
 use Rattle.bb_parse.specs.declared.syntax.Step.{Step}
 use Rattle.bb_scope.specs.Names.{steps_names}
 use Rattle.bb_scope.proofs.UseLaws.{next_one, next_on}
-use Rattle.bb_drive.specs.Work.{Work}
-use Rattle.bb_gates.specs.Making.{terminal_made, terminals_made}
+use Rattle.bb_fault.specs.Work.{Work}
+use Rattle.bb_scope.specs.Making.{terminal_made, terminals_made}
 use Rattle.bb_gates.proofs.Growing.{terminals-grow}
 use Rattle.bb_gates.proofs.prims.terminals_made.Goals as goal
 

@@ -1,5 +1,5 @@
 use Rattle.std.proofs.Common.{◌≡◌, ◌++◌, drop}
-use Rattle.bb_gates.specs.Making.{terminals_made}
+use Rattle.bb_scope.specs.Making.{terminals_made}
 use Rattle.std.specs.Prelude.{flat_map}
 use Rattle.bb_scope.specs.Names.{steps_names}
 use Rattle.bb_scope.specs.Uses.{AreNext}

@@ -3,9 +3,9 @@ use Rattle.std.proofs.lemmas.Grind.{common_steps}
 use Rattle.bb_base.specs.Variables.{Entry}
 use Rattle.bb_parse.specs.declared.syntax.Step.{Step}
 use Rattle.bb_scope.specs.Terminals.{is_last}
-use Rattle.bb_drive.specs.Work.{Work}
-use Rattle.bb_gates.specs.declared.value.Bit.{Bit}
-use Rattle.bb_gates.specs.Making.{New, step_made, makes_gates, assigned}
+use Rattle.bb_fault.specs.Work.{Work}
+use Rattle.bb_scope.specs.declared.value.Bit.{Bit}
+use Rattle.bb_scope.specs.Making.{New, step_made, makes_gates, assigned}
 use Rattle.bb_gates.proofs.Growing.{other-grows}
 use Rattle.bb_gates.proofs.StepLaws.{none_copied}
 use Rattle.bb_gates.proofs.steps.assigned.Goals as goal

@@ -1,5 +1,5 @@
 use Rattle.std.proofs.Common.{◌≡◌, ◌++◌, ◌-◌}
-use Rattle.bb_gates.specs.Making.{const_bits}
+use Rattle.bb_scope.specs.Making.{const_bits}
 use Rattle.bb_gates.proofs.steps.const_bits.Given as goal
 
 abbrev pub invariant-loop-place : goal.invariant-loop-place

@@ -1,5 +1,5 @@
 use Rattle.std.proofs.Common.{◌≡◌, drop}
-use Rattle.bb_gates.specs.Making.{copied_onto}
+use Rattle.bb_scope.specs.Making.{copied_onto}
 use Rattle.bb_gates.proofs.steps.copied_onto.Given as goal
 
 abbrev pub invariant-loop-index : goal.invariant-loop-index

@@ -1,5 +1,5 @@
 use Rattle.std.proofs.Common.{◌≡◌, ◌++◌, ◌-◌}
-use Rattle.bb_gates.specs.Making.{copies}
+use Rattle.bb_scope.specs.Making.{copies}
 use Rattle.bb_gates.proofs.steps.copies.Given as goal
 
 abbrev pub invariant-loop : goal.invariant-loop

@@ -1,5 +1,5 @@
 use Rattle.std.proofs.Common.{◌≡◌, ◌++◌, drop}
-use Rattle.bb_gates.specs.Making.{side_by_side}
+use Rattle.bb_scope.specs.Making.{side_by_side}
 use Rattle.bb_gates.proofs.steps.joined.Given as goal
 
 abbrev pub invariant-loop-value : goal.invariant-loop-value

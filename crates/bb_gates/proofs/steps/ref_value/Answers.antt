@@ -1,6 +1,6 @@
 use Rattle.std.proofs.Common.{arith, ap}
 use Rattle.std.proofs.lemmas.Grind.{common_steps}
-use Rattle.bb_gates.specs.Making.{as_value}
+use Rattle.bb_scope.specs.Making.{as_value}
 use Rattle.bb_scope.proofs.ScopeLaws.{range_next}
 use Rattle.bb_gates.proofs.steps.ref_value.Goals as goal
 

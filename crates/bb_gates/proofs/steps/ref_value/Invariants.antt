@@ -1,6 +1,6 @@
 use Rattle.std.proofs.Common.{◌≡◌, ◌++◌, ◌-◌}
 use Rattle.std.specs.List.{range_with_len}
-use Rattle.bb_gates.specs.Making.{as_value}
+use Rattle.bb_scope.specs.Making.{as_value}
 use Rattle.bb_gates.proofs.steps.ref_value.Given as goal
 
 abbrev pub invariant-loop-net : goal.invariant-loop-net

@@ -2,9 +2,9 @@ use Rattle.std.proofs.Common.{arith, ◌≡◌, ◌<◌, ◌+◌, ◌^◌, ℕ, 
 use Rattle.std.proofs.lemmas.Grind.{common_steps}
 use Rattle.bb_base.specs.Variables.{Entry}
 use Rattle.bb_parse.specs.declared.syntax.Step.{Step}
-use Rattle.bb_drive.specs.Work.{Work}
-use Rattle.bb_gates.specs.declared.value.Bit.{Bit}
-use Rattle.bb_gates.specs.Making.{New, step_made, steps_made}
+use Rattle.bb_fault.specs.Work.{Work}
+use Rattle.bb_scope.specs.declared.value.Bit.{Bit}
+use Rattle.bb_scope.specs.Making.{New, step_made, steps_made}
 use Rattle.bb_gates.proofs.Growing.{steps-grow}
 use Rattle.bb_gates.proofs.steps.steps_made.Goals as goal
 

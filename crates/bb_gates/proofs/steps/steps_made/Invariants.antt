@@ -1,5 +1,5 @@
 use Rattle.std.proofs.Common.{◌≡◌, drop}
-use Rattle.bb_gates.specs.Making.{steps_made}
+use Rattle.bb_scope.specs.Making.{steps_made}
 use Rattle.bb_scope.specs.Names.{steps_names}
 use Rattle.bb_scope.specs.Uses.{AreNext}
 use Rattle.bb_gates.proofs.steps.steps_made.Given as goal

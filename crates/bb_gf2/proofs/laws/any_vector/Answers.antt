@@ -1,6 +1,6 @@
 use Rattle.bb_gf2.proofs.Pairing.{duals_from_least}
 use Rattle.bb_gf2.proofs.Existence.{duals_exist, independent, state_codes, duals_below, combined_below}
-use Rattle.bb_gf2.specs.Bits.{from_bits}
+use Rattle.bb_base.specs.Bits.{from_bits}
 use Rattle.bb_gf2.proofs.laws.any_vector.Goals as goal
 
 pub returns-clause-independent : goal.returns-clause-independent

@@ -1,6 +1,6 @@
 use Rattle.std.proofs.Common.{◌+◌, ◌/◌, bit_xor, get_or, drop, sym, ap, ◌∙◌}
 use Rattle.std.proofs.lemmas.List.{at_drop_more}
-use Rattle.bb_gf2.specs.Span.{combined}
+use Rattle.bb_base.specs.Span.{combined}
 use Rattle.bb_gf2.proofs.Steps.{sum_with, sum_without}
 use Rattle.bb_gf2.proofs.parities.combined.Goals as goal
 use Rattle.bb_gf2.proofs.parities.combined.Goals.{then-left-eq1, else-left-eq1}

@@ -1,5 +1,5 @@
 use Rattle.std.proofs.Common.{◌≡◌, drop, bit_xor}
-use Rattle.bb_gf2.specs.Span.{combined}
+use Rattle.bb_base.specs.Span.{combined}
 use Rattle.bb_gf2.proofs.parities.combined.Given as goal
 
 abbrev pub invariant-loop-row : goal.invariant-loop-row

@@ -1,5 +1,5 @@
 use Rattle.std.proofs.Common.{take}
-use Rattle.bb_gf2.specs.Span.{IsInCoset}
+use Rattle.bb_base.specs.Span.{IsInCoset}
 use Rattle.bb_base.specs.Firsts.{IsLeast}
 use Rattle.bb_gf2.proofs.spans.reduced.Given as goal
 

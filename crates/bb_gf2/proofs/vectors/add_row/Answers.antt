@@ -1,10 +1,10 @@
 use Rattle.std.proofs.Common.{◌≡◌, ℕ, ◌++◌, ◌∷◌, [], ◌<◌, ◌==◌, if◌then◌else◌, bit_xor, refl, sym, ap, ◌∙◌, subst, length, get_or}
 use Rattle.arrayvec.proofs.ArrayVecLemmas.{items-with_items}
 use Rattle.std.specs.Int.{bit_at}
-use Rattle.bb_gf2.specs.Bits.{from_bits}
-use Rattle.bb_gf2.specs.Parity.{code_word}
-use Rattle.bb_gf2.specs.Span.{combined}
-use Rattle.bb_gf2.specs.Dual.{AreLeastDuals}
+use Rattle.bb_base.specs.Bits.{from_bits}
+use Rattle.bb_base.specs.Parity.{code_word}
+use Rattle.bb_base.specs.Span.{combined}
+use Rattle.bb_base.specs.Dual.{AreLeastDuals}
 use Rattle.bb_gf2.proofs.Rows.{dependence_found, duals_made}
 use Rattle.bb_gf2.proofs.vectors.add_row.Goals as goal
 

@@ -1,6 +1,6 @@
 use Rattle.std.proofs.Common.{subst}
 use Rattle.std.proofs.lemmas.List.{take_all}
-use Rattle.bb_gf2.specs.Dual.{AreLeastDuals}
+use Rattle.bb_base.specs.Dual.{AreLeastDuals}
 use Rattle.bb_gf2.proofs.Pairing.{duals_from_least}
 use Rattle.bb_gf2.proofs.Existence.{independent}
 use Rattle.std.proofs.lemmas.Result.{err_from_is_err_and}

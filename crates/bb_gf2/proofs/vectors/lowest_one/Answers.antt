@@ -2,7 +2,7 @@ use Rattle.std.proofs.Common.{sym, ap, ◌∙◌, subst, arith, w32}
 use Rattle.std.specs.Int.{trailing_zeros}
 use Rattle.std.proofs.lemmas.Nat.{one_shl}
 use Rattle.std.proofs.lemmas.Nat.Bits.{bit_at-trailing_zeros}
-use Rattle.bb_gf2.specs.Parity.{code_bit}
+use Rattle.bb_base.specs.Parity.{code_bit}
 use Rattle.bb_gf2.proofs.Low.{Keeps, lowest_coded, lowest_keeps}
 use Rattle.bb_gf2.proofs.vectors.lowest_one.Goals as goal
 

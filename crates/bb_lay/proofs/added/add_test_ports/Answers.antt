@@ -1,8 +1,8 @@
 use Rattle.std.proofs.Common.{refl, length, ◌∷◌, []}
 use Rattle.bb_base.specs.declared.variable.Role.TheVariants.{Input, Output}
 use Rattle.bb_base.specs.Variables.{Entry}
-use Rattle.bb_ctl.specs.declared.wire.Wire.TheVariants.{Test, Init, So, Done}
-use Rattle.bb_ctl.specs.Wires.{symbol_name}
+use Rattle.bb_terms.specs.declared.wire.Wire.TheVariants.{Test, Init, So, Done}
+use Rattle.bb_terms.specs.Wires.{symbol_name}
 use Rattle.bb_written.specs.Written.{scalar_entry, added_ports}
 use Rattle.bb_lay.specs.Laying.{scalar_bits}
 use Rattle.bb_lay.proofs.Adding.{first_of}

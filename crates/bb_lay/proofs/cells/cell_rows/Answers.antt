@@ -1,10 +1,10 @@
 use Rattle.std.proofs.Common.{◌≡◌, ◌<◌, ◌++◌, ◌∙◌, ap, sym, subst, length, All}
 use Rattle.std.proofs.lemmas.List.Elements.{recursion_from_All}
-use Rattle.bb_netlist.specs.Net.{driven}
-use Rattle.bb_creg.specs.OnBits.{shifted}
-use Rattle.bb_rules.specs.Plan.{chain}
-use Rattle.bb_ctl.specs.declared.wire.Wire.TheVariants.{Feed}
-use Rattle.bb_ctl.specs.Controller.{word_from, word_ahead}
+use Rattle.bb_base.specs.Net.{driven}
+use Rattle.bb_terms.specs.OnBits.{shifted}
+use Rattle.bb_terms.specs.Plan.{chain}
+use Rattle.bb_terms.specs.declared.wire.Wire.TheVariants.{Feed}
+use Rattle.bb_terms.specs.Controller.{word_from, word_ahead}
 use Rattle.bb_lay.specs.Tables.{IsOn, all_rows_in}
 use Rattle.bb_lay.proofs.TableLemmas.{ds_below, all_are}
 use Rattle.bb_lay.proofs.cells.cell_rows.Goals as goal

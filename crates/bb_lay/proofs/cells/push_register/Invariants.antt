@@ -1,5 +1,5 @@
 use Rattle.std.proofs.Common.{◌≡◌, ◌++◌, ◌+◌, drop}
-use Rattle.bb_ctl.specs.declared.wire.Wire.TheVariants.{First}
+use Rattle.bb_terms.specs.declared.wire.Wire.TheVariants.{First}
 use Rattle.bb_lay.specs.Tables.{rows_in}
 use Rattle.bb_lay.proofs.cells.push_register.Given as goal
 

@@ -1,7 +1,7 @@
 use Rattle.std.proofs.Common.{◌≡◌, ◌∙◌, ap, sym, subst, refl, length, All, Some, slice_get}
 use Rattle.std.proofs.lemmas.Option.{slice_get_read}
 use Rattle.std.proofs.lemmas.List.Elements.{All-from_recursion, recursion_from_All}
-use Rattle.bb_rules.specs.Plan.{RegisterValue, chain}
+use Rattle.bb_terms.specs.Plan.{RegisterValue, chain}
 use Rattle.bb_lay.specs.Tables.{IsOn}
 use Rattle.bb_lay.proofs.TableLemmas.{register_inside}
 use Rattle.bb_lay.proofs.cells.push_registers.Goals as goal

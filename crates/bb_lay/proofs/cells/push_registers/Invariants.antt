@@ -1,6 +1,6 @@
 use Rattle.std.proofs.Common.{◌≡◌, ◌++◌, ◌+◌, drop, length}
-use Rattle.bb_rules.specs.Plan.{chain}
-use Rattle.bb_rules.proofs.ChainLemmas.{cells_of}
+use Rattle.bb_terms.specs.Plan.{chain}
+use Rattle.bb_terms.proofs.ChainLemmas.{cells_of}
 use Rattle.bb_lay.specs.Tables.{all_rows_in}
 use Rattle.bb_lay.proofs.cells.push_registers.Given as goal
 

@@ -1,7 +1,7 @@
 use Rattle.std.proofs.Common.{◌∷◌, [], ◌+◌, ◌-◌, ap}
-use Rattle.bb_creg.specs.OnBits.{shifted}
-use Rattle.bb_ctl.specs.declared.wire.Wire.TheVariants.{Word, Feed}
-use Rattle.bb_ctl.specs.Controller.{word_from}
+use Rattle.bb_terms.specs.OnBits.{shifted}
+use Rattle.bb_terms.specs.declared.wire.Wire.TheVariants.{Word, Feed}
+use Rattle.bb_terms.specs.Controller.{word_from}
 use Rattle.bb_ctl.proofs.RowLemmas.{more, word_next}
 use Rattle.bb_lay.proofs.cells.word_ahead.Goals as goal
 

@@ -1,5 +1,5 @@
 use Rattle.std.proofs.Common.{◌++◌, ◌∷◌, [], ◌+◌, ◌-◌}
-use Rattle.bb_ctl.specs.declared.wire.Wire.TheVariants.{Word, WordNext}
+use Rattle.bb_terms.specs.declared.wire.Wire.TheVariants.{Word, WordNext}
 use Rattle.bb_written.specs.Cells.{flop, word_flops}
 use Rattle.bb_ctl.proofs.RowLemmas.{more}
 use Rattle.bb_lay.proofs.FlopLemmas.{words_next}

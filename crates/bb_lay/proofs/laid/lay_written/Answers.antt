@@ -1,11 +1,11 @@
 use Rattle.std.proofs.Common.{arith, ℕ, ◌≡◌, ◌∙◌, ap, sym, subst, length, All}
 use Rattle.std.proofs.lemmas.List.Elements.{All-from_recursion}
 use Rattle.bb_base.specs.Variables.{bit_count}
-use Rattle.bb_netlist.specs.Net.{Netlist, driven}
-use Rattle.bb_net.specs.Building.{started}
-use Rattle.bb_rules.specs.Plan.{PlanValue, chain}
+use Rattle.bb_base.specs.Net.{Netlist, driven}
+use Rattle.bb_base.specs.Building.{started}
+use Rattle.bb_terms.specs.Plan.{PlanValue, chain}
 use Rattle.bb_ctl.specs.Numbers.{HasNumbers}
-use Rattle.bb_ctl.specs.Wires.{IsAdded}
+use Rattle.bb_terms.specs.Wires.{IsAdded}
 use Rattle.bb_written.specs.Written.{inner_wires}
 use Rattle.bb_lay.specs.Tables.{IsOn}
 use Rattle.bb_lay.specs.RowsOf.{AreRows}

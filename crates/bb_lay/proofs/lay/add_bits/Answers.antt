@@ -1,7 +1,7 @@
 use Rattle.std.proofs.Common.{arith, ap, rules, IsSome, ◌≡◌, ◌∙◌, length, length-append, true, false, Contains}
 use Rattle.std.specs.List.{list_any}
 use Rattle.bb_base.specs.Variables.{bit_at, bit_eq}
-use Rattle.bb_net.specs.Named.{Named}
+use Rattle.bb_base.specs.Named.{Named}
 use Rattle.bb_lay.specs.Laying.{net_bits}
 use Rattle.bb_lay.proofs.Bits.{net_bits_few, place_added, place_passed, found_any, missed_any}
 use Rattle.bb_lay.proofs.lay.add_bits.Goals as goal

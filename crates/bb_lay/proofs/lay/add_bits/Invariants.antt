@@ -1,5 +1,5 @@
 use Rattle.std.proofs.Common.{◌≡◌, All}
-use Rattle.bb_net.specs.Building.{IsEarlier}
+use Rattle.bb_base.specs.Building.{IsEarlier}
 use Rattle.bb_lay.specs.Laying.{with_bits, net_bits}
 use Rattle.bb_lay.proofs.lay.add_bits.Given as goal
 

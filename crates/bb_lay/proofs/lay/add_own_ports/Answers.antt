@@ -1,7 +1,7 @@
 use Rattle.std.proofs.Common.{arith, ◌≡◌, ◌<◌, ◌∷◌, [], ◌++◌, ap, subst, sym, length, length-append, ◌∙◌}
 use Rattle.bb_base.specs.Variables.{clock_place, ports_of}
-use Rattle.bb_net.specs.Named.{Named}
-use Rattle.bb_net.specs.Building.{with_variable}
+use Rattle.bb_base.specs.Named.{Named}
+use Rattle.bb_base.specs.Building.{with_variable}
 use Rattle.bb_lay.specs.Laying.{CanStand}
 use Rattle.bb_lay.proofs.OwnPorts.{ports_begin, port_can, port_clock, port_step, ports_end}
 use Rattle.bb_lay.proofs.lay.add_own_ports.Goals as goal

@@ -2,7 +2,7 @@ use Rattle.std.proofs.Common.{arith, ◌≡◌, ◌≢◌, ap, subst, sym, Some,
 use Rattle.std.proofs.lemmas.Option.{get_or_from_slice_get}
 use Rattle.bb_base.specs.declared.variable.BitName.{BitName}
 use Rattle.bb_base.specs.Variables.{bit_at, ports_of}
-use Rattle.bb_net.specs.Named.{Named, name_of_net}
+use Rattle.bb_base.specs.Named.{Named, name_of_net}
 use Rattle.bb_net.proofs.VariableLemmas.{all_at}
 use Rattle.bb_lay.specs.Laying.{new_number}
 use Rattle.bb_lay.proofs.Bits.{each_more}

@@ -1,6 +1,6 @@
 use Rattle.std.proofs.Common.{◌≡◌, ℕ, ◌<◌, length, Some, slice_get, slice_index}
 use Rattle.bb_base.specs.Variables.{bit_at, ports_of}
-use Rattle.bb_net.specs.Named.{name_of_net}
+use Rattle.bb_base.specs.Named.{name_of_net}
 use Rattle.bb_lay.specs.Laying.{new_number}
 use Rattle.bb_lay.proofs.lay.kept_nets.Given as goal
 

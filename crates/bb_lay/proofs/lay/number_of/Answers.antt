@@ -1,7 +1,7 @@
 use Rattle.std.proofs.Common.{arith, ap, Err, ◌≡◌, length}
 use Rattle.bb_base.specs.Variables.{bit_at}
-use Rattle.bb_net.specs.Named.{Named}
-use Rattle.bb_net.specs.Building.{with_net}
+use Rattle.bb_base.specs.Named.{Named}
+use Rattle.bb_base.specs.Building.{with_net}
 use Rattle.bb_net.proofs.OnlyMemory.{net_memory}
 use Rattle.bb_lay.proofs.Bits.{net_stands, stands_any}
 use Rattle.bb_lay.proofs.lay.number_of.Goals as goal

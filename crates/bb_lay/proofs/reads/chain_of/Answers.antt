@@ -1,7 +1,7 @@
 use Rattle.std.proofs.Common.{◌≡◌, ◌++◌, ◌+◌, ◌≤◌, ◌∙◌, refl, ap, sym, subst, drop, length, Some, slice_get, append-nil}
 use Rattle.std.proofs.lemmas.Option.{slice_get_read}
-use Rattle.bb_rules.specs.Plan.{RegisterValue, chain}
-use Rattle.bb_rules.proofs.ChainLemmas.{cells_of}
+use Rattle.bb_terms.specs.Plan.{RegisterValue, chain}
+use Rattle.bb_terms.proofs.ChainLemmas.{cells_of}
 use Rattle.bb_ctl.proofs.ChainLemmas.{cells_split}
 use Rattle.bb_ctl.proofs.RowLemmas.{more}
 use Rattle.bb_lay.proofs.Clocks.{drop_all}

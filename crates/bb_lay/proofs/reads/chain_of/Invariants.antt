@@ -1,6 +1,6 @@
 use Rattle.std.proofs.Common.{◌≡◌, ◌++◌, drop}
-use Rattle.bb_rules.specs.Plan.{chain}
-use Rattle.bb_rules.proofs.ChainLemmas.{cells_of}
+use Rattle.bb_terms.specs.Plan.{chain}
+use Rattle.bb_terms.proofs.ChainLemmas.{cells_of}
 use Rattle.bb_lay.proofs.reads.chain_of.Given as goal
 
 abbrev pub invariant-registers : goal.invariant-registers

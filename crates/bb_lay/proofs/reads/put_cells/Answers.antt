@@ -2,9 +2,9 @@ use Rattle.std.proofs.Common.{◌≡◌, ◌<◌, ◌+◌, ◌-◌, length, drop
 use Rattle.std.proofs.lemmas.Option.{slice_get_read}
 use Rattle.std.proofs.Math.ListN.{set, length-set}
 use Rattle.bb_net.proofs.VariableLemmas.{all_at}
-use Rattle.bb_rules.specs.declared.plan.Cell.{Cell}
-use Rattle.bb_rules.specs.Kinds.{is_behind}
-use Rattle.bb_ctl.specs.declared.wire.Wire.TheVariants.{Read}
+use Rattle.bb_terms.specs.declared.plan.Cell.{Cell}
+use Rattle.bb_terms.specs.Kinds.{is_behind}
+use Rattle.bb_terms.specs.declared.wire.Wire.TheVariants.{Read}
 use Rattle.bb_lay.specs.Tables.{read_past, IsOn}
 use Rattle.bb_lay.proofs.TableLemmas.{behind_step, other_step}
 use Rattle.bb_lay.proofs.reads.put_cells.Goals as goal

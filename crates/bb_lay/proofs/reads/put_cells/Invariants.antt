@@ -1,5 +1,5 @@
 use Rattle.std.proofs.Common.{◌≡◌, ℕ, ◌≤◌, length, drop, slice_get, Some}
-use Rattle.bb_ctl.specs.declared.wire.Wire.{Wire}
+use Rattle.bb_terms.specs.declared.wire.Wire.{Wire}
 use Rattle.bb_lay.specs.Tables.{read_past}
 use Rattle.bb_lay.proofs.reads.put_cells.Given as goal
 

@@ -2,7 +2,7 @@ use Rattle.std.proofs.Common.{ℕ, ◌≡◌, ◌<◌, ◌+◌, ◌-◌, length,
 use Rattle.std.proofs.lemmas.Option.{slice_get_read}
 use Rattle.std.proofs.Math.ListN.{set, length-set}
 use Rattle.bb_net.proofs.VariableLemmas.{all_at}
-use Rattle.bb_netlist.specs.Net.{Flop}
+use Rattle.bb_base.specs.Net.{Flop}
 use Rattle.bb_lay.specs.Tables.{d_over}
 use Rattle.bb_lay.proofs.TableLemmas.{flop_step}
 use Rattle.bb_lay.proofs.reads.put_flops.Goals as goal

@@ -1,6 +1,6 @@
 use Rattle.std.proofs.Common.{◌≡◌, ◌<◌, length, ap, ◌∙◌, arith, slice_get, Some}
 use Rattle.bb_base.proofs.Lists.{whole_written}
-use Rattle.bb_ctl.specs.declared.wire.Wire.TheVariants.{Kept}
+use Rattle.bb_terms.specs.declared.wire.Wire.TheVariants.{Kept}
 use Rattle.bb_lay.proofs.TableLemmas.{read_is}
 use Rattle.bb_lay.proofs.reads.reads_of.Goals as goal
 

@@ -1,5 +1,5 @@
 use Rattle.std.proofs.Common.{◌≡◌, ◌<◌, ℕ, length, slice_get, Some}
-use Rattle.bb_ctl.specs.declared.wire.Wire.TheVariants.{Kept}
+use Rattle.bb_terms.specs.declared.wire.Wire.TheVariants.{Kept}
 use Rattle.bb_lay.proofs.reads.reads_of.Given as goal
 
 abbrev pub invariant-nets : goal.invariant-nets

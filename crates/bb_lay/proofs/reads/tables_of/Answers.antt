@@ -1,10 +1,10 @@
 use Rattle.std.proofs.Common.{arith, ℕ, ◌<◌, ap, sym, subst, All, Some, ◌∙◌}
 use Rattle.std.proofs.lemmas.List.Elements.{All-from_recursion}
 use Rattle.bb_base.proofs.Contained.{by_place, contains_at}
-use Rattle.bb_netlist.specs.Net.{Flop}
-use Rattle.bb_rules.specs.Lines.{d_of}
-use Rattle.bb_rules.proofs.NetLemmas.{q_within}
-use Rattle.bb_ctl.specs.Reads.{read_behind}
+use Rattle.bb_base.specs.Net.{Flop}
+use Rattle.bb_terms.specs.Lines.{d_of}
+use Rattle.bb_terms.proofs.NetLemmas.{q_within}
+use Rattle.bb_terms.specs.Reads.{read_behind}
 use Rattle.bb_written.proofs.Driven.{d_inside}
 use Rattle.bb_lay.proofs.reads.tables_of.Goals as goal
 

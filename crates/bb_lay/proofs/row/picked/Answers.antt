@@ -1,5 +1,5 @@
 use Rattle.std.proofs.Common.{◌+◌, ◌/◌, ◌++◌, drop, sym, ap, ◌∙◌}
-use Rattle.bb_gf2.specs.Bits.{picked}
+use Rattle.bb_base.specs.Bits.{picked}
 use Rattle.bb_ctl.proofs.RowLemmas.{more, picked_kept, picked_left}
 use Rattle.bb_lay.proofs.row.picked.Goals as goal
 use Rattle.bb_lay.proofs.row.picked.Goals.{then-rest-eq1+in_ok-push, else-rest-eq1}

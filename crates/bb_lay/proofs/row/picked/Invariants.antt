@@ -1,5 +1,5 @@
 use Rattle.std.proofs.Common.{◌≡◌, ◌++◌, drop}
-use Rattle.bb_gf2.specs.Bits.{picked}
+use Rattle.bb_base.specs.Bits.{picked}
 use Rattle.bb_lay.proofs.row.picked.Given as goal
 
 abbrev pub invariant-wires : goal.invariant-wires

@@ -1,5 +1,5 @@
 use Rattle.std.proofs.Common.{ℕ, ◌<◌, ◌∙◌, ap, sym, subst, length, All, map}
-use Rattle.bb_netlist.specs.Net.{Gate}
+use Rattle.bb_base.specs.Net.{Gate}
 use Rattle.bb_lay.specs.Tables.{row_behind}
 use Rattle.bb_lay.proofs.TableLemmas.{kept_are, ins_inside}
 use Rattle.bb_lay.proofs.rows.rows_of.Goals as goal

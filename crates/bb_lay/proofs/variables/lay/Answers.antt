@@ -1,7 +1,7 @@
 use Rattle.std.proofs.Common.{arith, ◌≡◌, ◌≢◌, ◌++◌, ap, sym, subst, length, map, drop, All, Contains, ◌∙◌, ◌+◌, slice_get, slice_index, Some}
 use Rattle.std.specs.Option.{ForSome}
 use Rattle.bb_base.specs.Variables.{IsBit, bit_at, ports_of}
-use Rattle.bb_net.specs.Named.{Named, name_of_net}
+use Rattle.bb_base.specs.Named.{Named, name_of_net}
 use Rattle.bb_written.specs.Written.{added_clock, added_ports, inner_entry}
 use Rattle.bb_lay.specs.Laying.{AddsAll, IsLaid, new_number, scalar_bits, laid_variables, laid_bits, wires_from, clock_or}
 use Rattle.bb_lay.proofs.KeptNets.{bits_moved, all_stand, none_clock}

@@ -1,6 +1,6 @@
 use Rattle.std.proofs.Common.{◌≡◌, ℕ, Bool, Option, None, ap, ◌∙◌, nat_lt, ◌^◌, min}
-use Rattle.bb_lex.specs.declared.token.TokenKind.TheVariants as kinds
-use Rattle.bb_lex.specs.declared.fault.LexFault.TheVariants as faults
+use Rattle.bb_base.specs.declared.token.TokenKind.TheVariants as kinds
+use Rattle.bb_base.specs.declared.lex_fault.LexFault.TheVariants as faults
 use Rattle.bb_lex.specs.Machine.{checked, capped}
 use Rattle.bb_lex.proofs.CappedLemmas.{none_fits}
 use Rattle.bb_lex.proofs.lexer.constant_kind.Goals as goal

@@ -1,6 +1,6 @@
 use Rattle.std.proofs.Common.{◌≡◌, ℕ, ap, refl, Err}
-use Rattle.bb_rules.specs.declared.fault.PlanFault.{PlanFault}
-use Rattle.bb_rules.specs.declared.fault.PlanFault.TheVariants.{Rule, NoMemory}
+use Rattle.bb_terms.specs.declared.fault.PlanFault.{PlanFault}
+use Rattle.bb_terms.specs.declared.fault.PlanFault.TheVariants.{Rule, NoMemory}
 use Rattle.bb_make.proofs.checked.checked.Goals as goal
 
 pub no_rule-requires : goal.no_rule-requires

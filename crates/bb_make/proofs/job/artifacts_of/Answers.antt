@@ -1,7 +1,7 @@
 use Rattle.std.proofs.Common.{◌∙◌, ℕ, ap, sym, subst}
-use Rattle.bb_netlist.specs.Net.{Netlist}
-use Rattle.bb_rules.specs.Plan.{PlanValue}
-use Rattle.bb_rules.specs.Signatures.{AreSignatures}
+use Rattle.bb_base.specs.Net.{Netlist}
+use Rattle.bb_terms.specs.Plan.{PlanValue}
+use Rattle.bb_terms.specs.Signatures.{AreSignatures}
 use Rattle.bb_forms.specs.ScheduleText.{schedule_text}
 use Rattle.bb_make.specs.Artifacts.{IsSummary}
 use Rattle.bb_make.specs.Bounds.{HasBounds}

@@ -1,10 +1,10 @@
 use Rattle.std.proofs.Common.{◌≡◌, ◌≤◌, ℕ, ap, sym, subst, nat_eq, Err}
 use Rattle.std.specs.List.{AllByRecursion}
 use Rattle.std.specs.Set.{distinct_count}
-use Rattle.bb_netlist.specs.Net.{Netlist}
-use Rattle.bb_segment.specs.Cuts.{IsFirstWide}
-use Rattle.bb_rules.specs.Plan.{PlanValue}
-use Rattle.bb_rules.specs.Valid.{IsValidPlan}
+use Rattle.bb_base.specs.Net.{Netlist}
+use Rattle.bb_terms.specs.Cuts.{IsFirstWide}
+use Rattle.bb_terms.specs.Plan.{PlanValue}
+use Rattle.bb_terms.specs.Valid.{IsValidPlan}
 use Rattle.bb_choose.specs.declared.fault.ChoiceFault.TheVariants.{GateTooWide, DegreeLimit, CycleLimit, NoFullPeriod}
 use Rattle.bb_choose.specs.Choice.{IsChosenPlan, OfArranged, LacksDegree, LacksCycles, LacksMask}
 use Rattle.bb_forms.specs.ScheduleText.{test_cycles}

@@ -1,6 +1,6 @@
 use Rattle.std.proofs.Common.{arith, ◌∙◌, ℕ, List, length, map, ap, sym, subst}
 use Rattle.bb_base.proofs.Lists.{length_map}
-use Rattle.bb_rules.specs.Plan.{PlanValue}
+use Rattle.bb_terms.specs.Plan.{PlanValue}
 use Rattle.bb_make.proofs.FileLemmas.{AreLong, signed_few}
 use Rattle.bb_make.proofs.BoundLemmas.{written_long}
 use Rattle.bb_make.proofs.texts.signatures_written.Goals as goal

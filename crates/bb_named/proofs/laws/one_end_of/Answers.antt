@@ -1,7 +1,7 @@
 use Rattle.std.proofs.Common.{subst, Ok}
 use Rattle.std.specs.List.{AllByRecursion}
 use Rattle.bb_lex.specs.Machine.{run, start}
-use Rattle.bb_lex.specs.Ranges.{IsProper}
+use Rattle.bb_base.specs.Tokens.{IsProper}
 use Rattle.bb_named.proofs.TextEnds.{one_end, some_end}
 use Rattle.bb_named.proofs.laws.one_end_of.Goals as goal
 

@@ -1,5 +1,5 @@
 use Rattle.std.proofs.Common.{sym, subst, Ok}
-use Rattle.bb_elab.specs.Outcome.{IsOutcome}
+use Rattle.bb_meaning.specs.Outcome.{IsOutcome}
 use Rattle.bb_parse.specs.Meaning as meaning
 use Rattle.bb_named.proofs.laws.one_outcome_of.Goals as goal
 

@@ -1,8 +1,8 @@
 use Rattle.std.proofs.Common.{sym, subst, Ok}
 use Rattle.std.specs.List.{AllByRecursion}
 use Rattle.bb_lex.specs.Machine.{run, start}
-use Rattle.bb_lex.specs.Ranges.{IsProper}
-use Rattle.bb_net.specs.Named.{IsNamed}
+use Rattle.bb_base.specs.Tokens.{IsProper}
+use Rattle.bb_base.specs.Named.{IsNamed}
 use Rattle.bb_named.proofs.laws.read_netlists_are_named.Goals as goal
 
 pub returns : goal.returns

@@ -1,7 +1,7 @@
 use Rattle.std.proofs.Common.{◌≤◌, Ok, sym, subst}
-use Rattle.bb_net.specs.Named.{Named}
+use Rattle.bb_base.specs.Named.{Named}
 use Rattle.bb_base.specs.Variables.{bit_count, limit_of}
-use Rattle.bb_elab.specs.Denotes.{ElaboratesTo}
+use Rattle.bb_meaning.specs.Denotes.{ElaboratesTo}
 use Rattle.bb_named.proofs.MadeBits.{few_bits}
 use Rattle.bb_named.proofs.named.named_in.Goals as goal
 

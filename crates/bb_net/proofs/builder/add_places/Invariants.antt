@@ -1,7 +1,7 @@
 use Rattle.std.proofs.Common.{◌≡◌, ◌++◌, ◌-◌, map, All}
 use Rattle.std.specs.List.{range_with_len}
 use Rattle.bb_base.specs.Variables.{bit_at}
-use Rattle.bb_net.specs.Building.{IsEarlier}
+use Rattle.bb_base.specs.Building.{IsEarlier}
 use Rattle.bb_net.proofs.builder.add_places.Given as goal
 
 abbrev pub invariant-loop-place : goal.invariant-loop-place

@@ -1,4 +1,4 @@
-use Rattle.bb_netlist.proofs.Renamed.{run_back_by, run_forth_by}
+use Rattle.bb_base.proofs.Renamed.{run_back_by, run_forth_by}
 use Rattle.bb_net.proofs.Designs.{run_by_site}
 use Rattle.bb_net.proofs.laws.runs_by_site.Goals as goal
 

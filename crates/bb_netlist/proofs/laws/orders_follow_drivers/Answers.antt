@@ -1,4 +1,4 @@
-use Rattle.bb_netlist.proofs.CycleLemmas.{follows, no_cycle}
+use Rattle.bb_base.proofs.CycleLemmas.{follows, no_cycle}
 use Rattle.bb_netlist.proofs.laws.orders_follow_drivers.Goals as goal
 
 pub returns-clause-after : goal.returns-clause-after

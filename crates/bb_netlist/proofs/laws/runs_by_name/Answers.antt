@@ -1,4 +1,4 @@
-use Rattle.bb_netlist.proofs.Renamed.{run_back, run_forth, run_back_by, run_forth_by}
+use Rattle.bb_base.proofs.Renamed.{run_back, run_forth, run_back_by, run_forth_by}
 use Rattle.bb_netlist.proofs.laws.runs_by_name.Goals as goal
 
 pub returns-clause-plain : goal.returns-clause-plain

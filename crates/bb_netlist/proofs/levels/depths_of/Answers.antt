@@ -1,7 +1,7 @@
 use Rattle.std.proofs.Common.{arith, ◌≡◌, ◌∙◌, ap, sym, subst, ℕ, List, Some, length, cond, ◌&&◌, ◌==◌, slice_get, slice_index}
 use Rattle.std.specs.Prelude.{Option, nat_lt}
-use Rattle.bb_netlist.specs.Net.{Gate, times}
-use Rattle.bb_netlist.specs.Levels.{IsWork, AreDepths, work, depth_in, open_count}
+use Rattle.bb_base.specs.Net.{Gate, times}
+use Rattle.bb_base.specs.Levels.{IsWork, AreDepths, work, depth_in, open_count}
 use Rattle.bb_base.proofs.Lists.{whole_written}
 use Rattle.bb_netlist.proofs.WorkLemmas.{first_work, work_done}
 use Rattle.bb_netlist.proofs.levels.depths_of.Goals as goal

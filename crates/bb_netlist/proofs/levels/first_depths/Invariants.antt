@@ -1,7 +1,7 @@
 use Rattle.std.proofs.Common.{◌≡◌, ℕ, ◌<◌, ◌≤◌, ◌==◌, length, take}
 use Rattle.std.specs.Prelude.{Some, None, if◌then◌else◌, count_by}
 use Rattle.std.specs.List.{list_any}
-use Rattle.bb_netlist.specs.Levels.{depth_in, is_open}
+use Rattle.bb_base.specs.Levels.{depth_in, is_open}
 use Rattle.bb_netlist.proofs.levels.first_depths.Given as goal
 
 abbrev pub invariant-loop-gate : goal.invariant-loop-gate

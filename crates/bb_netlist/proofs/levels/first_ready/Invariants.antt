@@ -1,6 +1,6 @@
 use Rattle.std.proofs.Common.{◌≡◌, ◌==◌, ◌&&◌, ℕ}
 use Rattle.std.specs.Prelude.{if◌then◌else◌, nat_lt, slice_index}
-use Rattle.bb_netlist.specs.Net.{times}
+use Rattle.bb_base.specs.Net.{times}
 use Rattle.bb_netlist.proofs.levels.first_ready.Given as goal
 
 abbrev pub invariant-gates : goal.invariant-gates

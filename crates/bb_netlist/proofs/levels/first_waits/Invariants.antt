@@ -1,7 +1,7 @@
 use Rattle.std.proofs.Common.{◌≡◌, ◌<◌, ℕ, length}
 use Rattle.std.specs.Prelude.{Some, slice_get, slice_index}
-use Rattle.bb_netlist.specs.Net.{Gate}
-use Rattle.bb_netlist.specs.Levels.{open_count, depth_in}
+use Rattle.bb_base.specs.Net.{Gate}
+use Rattle.bb_base.specs.Levels.{open_count, depth_in}
 use Rattle.bb_netlist.proofs.levels.first_waits.Given as goal
 
 abbrev pub invariant-gates : goal.invariant-gates

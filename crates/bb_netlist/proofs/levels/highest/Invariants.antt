@@ -1,6 +1,6 @@
 use Rattle.std.proofs.Common.{◌≡◌, drop}
 use Rattle.std.specs.Prelude.{Some}
-use Rattle.bb_netlist.specs.Levels.{higher, highest, depth_in}
+use Rattle.bb_base.specs.Levels.{higher, highest, depth_in}
 use Rattle.bb_netlist.proofs.levels.highest.Given as goal
 
 abbrev pub invariant-loop-net : goal.invariant-loop-net

@@ -1,7 +1,7 @@
 use Rattle.std.proofs.Common.{◌≡◌, ◌∙◌, ap, sym, Some}
 use Rattle.std.specs.Option.{unwrap_or}
 use Rattle.bb_netlist.proofs.DepthLemmas.{closed_highest}
-use Rattle.bb_netlist.specs.Levels.{depth_in}
+use Rattle.bb_base.specs.Levels.{depth_in}
 use Rattle.bb_netlist.proofs.levels.highest_of.Goals as goal
 
 pub returns : goal.returns

@@ -1,7 +1,7 @@
 use Rattle.std.proofs.Common.{◌≡◌, ◌<◌, ℕ, [], length, take}
 use Rattle.std.specs.Prelude.{slice_index_or}
-use Rattle.bb_netlist.specs.Net.{times}
-use Rattle.bb_netlist.specs.Levels.{inputs_at}
+use Rattle.bb_base.specs.Net.{times}
+use Rattle.bb_base.specs.Levels.{inputs_at}
 use Rattle.bb_netlist.proofs.levels.note_gates.Given as goal
 
 abbrev pub invariant-gates : goal.invariant-gates

@@ -1,6 +1,6 @@
 use Rattle.std.proofs.Common.{◌≡◌, ◌+◌, ◌<◌, ◌==◌, ℕ, [], length, take}
 use Rattle.std.specs.Prelude.{if◌then◌else◌, slice_index_or}
-use Rattle.bb_netlist.specs.Net.{times}
+use Rattle.bb_base.specs.Net.{times}
 use Rattle.bb_netlist.proofs.levels.note_reads.Given as goal
 
 abbrev pub invariant-loop-net : goal.invariant-loop-net

@@ -1,5 +1,5 @@
 use Rattle.std.proofs.Common.{◌≡◌, ◌≤◌, take}
-use Rattle.bb_netlist.specs.Levels.{open_count, depth_in}
+use Rattle.bb_base.specs.Levels.{open_count, depth_in}
 use Rattle.bb_netlist.proofs.levels.open_count.Given as goal
 
 abbrev pub invariant-loop-net : goal.invariant-loop-net

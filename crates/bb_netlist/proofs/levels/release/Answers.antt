@@ -2,7 +2,7 @@ use Rattle.std.proofs.Common.{arith, ◌≤◌, ◌<◌, length}
 use Rattle.std.proofs.lemmas.Grind.{common_steps}
 use Rattle.std.proofs.lemmas.Bool.Decides.{nat_tests}
 use Rattle.std.specs.Prelude.{slice_index}
-use Rattle.bb_netlist.specs.Net.{times}
+use Rattle.bb_base.specs.Net.{times}
 use Rattle.bb_netlist.proofs.LevelLemmas.{times_here, lowered, queued, times_more}
 use Rattle.bb_netlist.proofs.levels.release.Goals as goal
 use Rattle.bb_netlist.proofs.levels.release.Goals.{then-waits-place-eq0+in_ok-push, else-waits-place-eq0}

@@ -1,6 +1,6 @@
 use Rattle.std.proofs.Common.{◌≡◌, ◌+◌, ◌==◌, ◌&&◌, not, ℕ, length, take, slice_index}
 use Rattle.std.specs.Prelude.{if◌then◌else◌}
-use Rattle.bb_netlist.specs.Net.{times}
+use Rattle.bb_base.specs.Net.{times}
 use Rattle.bb_netlist.proofs.levels.release.Given as goal
 
 abbrev pub invariant-readers : goal.invariant-readers

@@ -2,8 +2,8 @@ use Rattle.std.proofs.Common.{arith, ◌≡◌, ◌<◌, ◌∙◌, ◌+◌, ◌
 use Rattle.std.proofs.lemmas.Grind.{common_steps}
 use Rattle.std.proofs.lemmas.Option.{gets, slice_get_within}
 use Rattle.std.specs.Prelude.{Option, All, slice_index_or, count_by}
-use Rattle.bb_netlist.specs.Net.{Gate, times}
-use Rattle.bb_netlist.specs.Levels.{IsWork, work, highest, depth_in, open_count, is_open, inputs_at}
+use Rattle.bb_base.specs.Net.{Gate, times}
+use Rattle.bb_base.specs.Levels.{IsWork, work, highest, depth_in, open_count, is_open, inputs_at}
 use Rattle.bb_netlist.proofs.WorkLemmas.{Taken, last_due, is_due, taking, next_work, open_falls, depth_low, readers_within, readers_wait}
 use Rattle.bb_netlist.proofs.levels.take.Goals as goal
 

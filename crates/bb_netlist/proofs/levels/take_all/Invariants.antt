@@ -1,6 +1,6 @@
 use Rattle.std.proofs.Common.{◌≡◌, length}
 use Rattle.std.specs.Prelude.{count_by}
-use Rattle.bb_netlist.specs.Levels.{IsWork, work, is_open}
+use Rattle.bb_base.specs.Levels.{IsWork, work, is_open}
 use Rattle.bb_netlist.proofs.levels.take_all.Given as goal
 
 abbrev pub invariant-ready : goal.invariant-ready

@@ -1,10 +1,10 @@
 use Rattle.std.proofs.Common.{arith, ◌≡◌, ◌∙◌, ap, sym, subst, ℕ, List, None, Vec, Global, length}
 use Rattle.std.specs.Prelude.{Option}
-use Rattle.bb_netlist.specs.Net.{Gate, driven}
+use Rattle.bb_base.specs.Net.{Gate, driven}
 use Rattle.bb_base.specs.Firsts.{IsFirst}
-use Rattle.bb_netlist.specs.Order.{IsLoop}
-use Rattle.bb_netlist.specs.Levels.{depth_in, AreGates}
-use Rattle.bb_netlist.proofs.GateLemmas.{gates_fit}
+use Rattle.bb_base.specs.Order.{IsLoop}
+use Rattle.bb_base.specs.Levels.{depth_in, AreGates}
+use Rattle.bb_base.proofs.GateLemmas.{gates_fit}
 use Rattle.bb_netlist.proofs.WalkLemmas.{loop_cycles}
 use Rattle.bb_netlist.proofs.order.find_order.Goals as goal
 

@@ -1,5 +1,5 @@
 use Rattle.std.proofs.Common.{◌≡◌, ◌<◌, sym, None, length, subst}
-use Rattle.bb_netlist.specs.Levels.{depth_in}
+use Rattle.bb_base.specs.Levels.{depth_in}
 use Rattle.bb_netlist.proofs.OrderLemmas.{none_of}
 use Rattle.bb_netlist.proofs.order.first_open.Goals as goal
 

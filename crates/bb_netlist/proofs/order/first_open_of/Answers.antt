@@ -1,7 +1,7 @@
 use Rattle.std.proofs.Common.{arith, ◌≡◌, Some, slice_get}
 use Rattle.std.proofs.lemmas.Grind.{common_steps}
 use Rattle.std.proofs.lemmas.Option.{gets}
-use Rattle.bb_netlist.specs.Levels.{depth_in}
+use Rattle.bb_base.specs.Levels.{depth_in}
 use Rattle.bb_netlist.proofs.OrderLemmas.{closed_more, some_of}
 use Rattle.bb_netlist.proofs.order.first_open_of.Goals as goal
 

@@ -1,6 +1,6 @@
 use Rattle.std.proofs.Common.{◌≡◌, ◌<◌, ℕ, take}
 use Rattle.std.specs.Prelude.{Some, None, slice_get}
-use Rattle.bb_netlist.specs.Levels.{depth_in, open_count}
+use Rattle.bb_base.specs.Levels.{depth_in, open_count}
 use Rattle.bb_netlist.proofs.order.first_open_of.Given as goal
 
 abbrev pub invariant-nets : goal.invariant-nets

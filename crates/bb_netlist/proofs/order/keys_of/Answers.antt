@@ -1,8 +1,8 @@
 use Rattle.std.proofs.Common.{arith, ◌≡◌, ◌<◌, ◌∙◌, ap, sym, ℕ, List, slice_get, slice_index, Some, length}
 use Rattle.std.proofs.lemmas.Grind.{common_steps}
 use Rattle.std.proofs.lemmas.Option.{gets, slice_get_within}
-use Rattle.bb_netlist.specs.Net.{Gate}
-use Rattle.bb_netlist.specs.Levels.{depth_in, key_at}
+use Rattle.bb_base.specs.Net.{Gate}
+use Rattle.bb_base.specs.Levels.{depth_in, key_at}
 use Rattle.bb_netlist.proofs.OrderLemmas.{valued_more}
 use Rattle.bb_netlist.proofs.order.keys_of.Goals as goal
 

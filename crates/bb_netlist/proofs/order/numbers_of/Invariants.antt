@@ -1,5 +1,5 @@
 use Rattle.std.proofs.Common.{◌≡◌, map, take}
-use Rattle.bb_netlist.specs.Levels.{number_in}
+use Rattle.bb_base.specs.Levels.{number_in}
 use Rattle.bb_netlist.proofs.order.numbers_of.Given as goal
 
 abbrev pub invariant-keys : goal.invariant-keys

@@ -1,6 +1,6 @@
 use Rattle.std.proofs.Common.{◌∙◌, ap, sym, subst, map, length}
-use Rattle.bb_netlist.specs.Order.{IsOrder}
-use Rattle.bb_netlist.specs.Levels.{depth_in, number_in}
+use Rattle.bb_base.specs.Order.{IsOrder}
+use Rattle.bb_base.specs.Levels.{depth_in, number_in}
 use Rattle.bb_netlist.proofs.OrderLemmas.{AreKeys, sorted_order, all_by_depth}
 use Rattle.bb_netlist.proofs.order.sort_gates.Goals as goal
 

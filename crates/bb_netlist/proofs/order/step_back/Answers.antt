@@ -1,12 +1,12 @@
 use Rattle.std.proofs.Common.{arith, ◌≡◌, ◌<◌, ◌∙◌, ap, sym, subst, refl, [], ℕ, List, All, Some, None, length, slice_get, get_or}
 use Rattle.std.proofs.lemmas.Option.{slice_get_within, get_or_from_slice_get}
-use Rattle.bb_netlist.specs.Net.{Gate, driven, Netlist, IsNetlist}
-use Rattle.bb_netlist.specs.Drivers.{Drives}
-use Rattle.bb_netlist.specs.declared.netlist.Driver.{Driver}
-use Rattle.bb_netlist.specs.declared.netlist.Driver.TheVariants as drivers_of
-use Rattle.bb_netlist.specs.Order.{IsFirstStuck, drivers}
-use Rattle.bb_netlist.specs.Levels.{depth_in, open_count, IsFirstOpen}
-use Rattle.bb_netlist.proofs.GateLemmas.{input_undriven, flop_undriven}
+use Rattle.bb_base.specs.Net.{Gate, driven, Netlist, IsNetlist}
+use Rattle.bb_base.specs.Drivers.{Drives}
+use Rattle.bb_base.specs.declared.netlist.Driver.{Driver}
+use Rattle.bb_base.specs.declared.netlist.Driver.TheVariants as drivers_of
+use Rattle.bb_base.specs.Order.{IsFirstStuck, drivers}
+use Rattle.bb_base.specs.Levels.{depth_in, open_count, IsFirstOpen}
+use Rattle.bb_base.proofs.GateLemmas.{input_undriven, flop_undriven}
 use Rattle.bb_netlist.proofs.OrderLemmas.{stepped}
 use Rattle.bb_netlist.proofs.order.step_back.Goals as goal
 

@@ -2,7 +2,7 @@ use Rattle.std.proofs.Common.{arith, ◌≡◌, ◌≤◌, ◌<◌, ◌∙◌, a
 use Rattle.std.proofs.lemmas.Grind.{common_steps}
 use Rattle.std.proofs.lemmas.Option.{slice_get_within}
 use Rattle.std.specs.Prelude.{Option}
-use Rattle.bb_netlist.specs.Order.{IsLoop}
+use Rattle.bb_base.specs.Order.{IsLoop}
 use Rattle.bb_netlist.proofs.WalkLemmas.{Walk, walk_on, walk_ends, place_read}
 use Rattle.bb_netlist.proofs.OrderLemmas.{Stepped}
 use Rattle.bb_netlist.proofs.order.walk_back.Goals as goal

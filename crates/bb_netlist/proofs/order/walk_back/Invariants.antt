@@ -1,5 +1,5 @@
 use Rattle.std.specs.Prelude.{count_by}
-use Rattle.bb_netlist.specs.Levels.{is_open}
+use Rattle.bb_base.specs.Levels.{is_open}
 use Rattle.bb_netlist.proofs.WalkLemmas.{Walk}
 use Rattle.bb_netlist.proofs.order.walk_back.Given as goal
 

@@ -1,5 +1,5 @@
 use Rattle.std.proofs.Common.{ap, ◌∙◌}
-use Rattle.bb_rules.specs.Plan.{RegisterValue}
+use Rattle.bb_terms.specs.Plan.{RegisterValue}
 use Rattle.bb_plan.proofs.ChainLemmas.{registers_more}
 use Rattle.bb_plan.proofs.chain.chain_of.Goals as goal
 

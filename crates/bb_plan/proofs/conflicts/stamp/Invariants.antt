@@ -1,5 +1,5 @@
 use Rattle.std.proofs.Common.{◌≡◌, ◌<◌, ℕ, length, take, slice_index, if◌then◌else◌}
-use Rattle.bb_rules.specs.Plan.{lists_register}
+use Rattle.bb_terms.specs.Plan.{lists_register}
 use Rattle.bb_plan.proofs.conflicts.stamp.Given as goal
 
 abbrev pub invariant-registers : goal.invariant-registers

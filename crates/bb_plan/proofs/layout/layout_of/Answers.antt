@@ -1,6 +1,6 @@
 use Rattle.std.proofs.Common.{arith, List, length, sym, ap, subst, ◌∙◌}
-use Rattle.bb_netlist.specs.Net.{driven}
-use Rattle.bb_rules.specs.Plan.{PlanValue}
+use Rattle.bb_base.specs.Net.{driven}
+use Rattle.bb_terms.specs.Plan.{PlanValue}
 use Rattle.bb_plan.specs.declared.chain.Link.{Link}
 use Rattle.bb_plan.specs.Chain.{links_from, AreOnNets, HaveOneSource, AreSources}
 use Rattle.bb_plan.proofs.LayoutLemmas.{few_links, few_in_plan, on_nets, sources_once, stops_same}

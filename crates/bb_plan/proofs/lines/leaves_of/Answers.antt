@@ -1,7 +1,7 @@
 use Rattle.std.proofs.Common.{arith, ◌≡◌, ℕ, List, Bool, sym, ap, subst}
-use Rattle.bb_segment.specs.Support.{stop_at}
-use Rattle.bb_rules.specs.Plan.{PlanValue}
-use Rattle.bb_rules.specs.Lines.{is_stop}
+use Rattle.bb_terms.specs.Support.{stop_at}
+use Rattle.bb_terms.specs.Plan.{PlanValue}
+use Rattle.bb_terms.specs.Lines.{is_stop}
 use Rattle.bb_plan.proofs.StartLemmas.{leaves_are, not_narrow}
 use Rattle.bb_plan.proofs.lines.leaves_of.Goals as goal
 

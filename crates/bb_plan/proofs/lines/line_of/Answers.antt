@@ -1,6 +1,6 @@
 use Rattle.std.proofs.Common.{arith, ◌<◌, ℕ, List, length, map, All, sym, ap, subst, ◌∙◌, slice_index}
 use Rattle.std.specs.List.Sorted.{IsPermutation}
-use Rattle.bb_rules.specs.Rules.{Frame, Kinds}
+use Rattle.bb_terms.specs.Rules.{Frame, Kinds}
 use Rattle.bb_plan.proofs.LineLemmas.{leaves_within, line_is}
 use Rattle.bb_plan.proofs.lines.line_of.Goals as goal
 

@@ -3,9 +3,9 @@ use Rattle.std.specs.List.{AllZip}
 use Rattle.std.proofs.lemmas.Grind.{common_steps}
 use Rattle.std.proofs.lemmas.List.{take_all}
 use Rattle.bb_base.specs.Places.{IsFirstWrong}
-use Rattle.bb_rules.specs.declared.plan.Cell.{Cell}
-use Rattle.bb_rules.specs.Plan.{PlanValue, chain}
-use Rattle.bb_rules.specs.Rules.{IsNarrow}
+use Rattle.bb_terms.specs.declared.plan.Cell.{Cell}
+use Rattle.bb_terms.specs.Plan.{PlanValue, chain}
+use Rattle.bb_terms.specs.Rules.{IsNarrow}
 use Rattle.bb_plan.specs.declared.chain.Link.{Link}
 use Rattle.bb_plan.specs.Chain.{links_from}
 use Rattle.bb_plan.specs.Layout.{LineValue, IsObservedLine}

@@ -1,9 +1,9 @@
 use Rattle.std.proofs.Common.{◌≡◌, ◌<◌, ℕ, length, take, Some, slice_get}
 use Rattle.std.specs.List.{AllZip}
-use Rattle.bb_netlist.specs.Net.{driven}
-use Rattle.bb_rules.specs.declared.plan.Cell.{Cell}
-use Rattle.bb_rules.specs.Plan.{chain}
-use Rattle.bb_rules.specs.Rules.{IsNarrow}
+use Rattle.bb_base.specs.Net.{driven}
+use Rattle.bb_terms.specs.declared.plan.Cell.{Cell}
+use Rattle.bb_terms.specs.Plan.{chain}
+use Rattle.bb_terms.specs.Rules.{IsNarrow}
 use Rattle.bb_plan.specs.Layout.{IsObservedLine}
 use Rattle.bb_plan.proofs.ObserverLemmas.{observers_from}
 use Rattle.bb_plan.proofs.lines.lines_of.Given as goal

@@ -1,11 +1,11 @@
 use Rattle.std.proofs.Common.{◌≡◌, ℕ, ◌<◌, List, length, sym, ap, subst, ◌∙◌, Some, slice_get, get_or}
 use Rattle.std.proofs.lemmas.Option.{slice_get_within, slice_get-get_or}
 use Rattle.std.specs.Option.{option_map}
-use Rattle.bb_netlist.specs.Net.{Flop, driven}
-use Rattle.bb_segment.specs.Paths.{AtNet, Behind}
-use Rattle.bb_rules.specs.Lines.{IsStart}
+use Rattle.bb_base.specs.Net.{Flop, driven}
+use Rattle.bb_terms.specs.Paths.{AtNet, Behind}
+use Rattle.bb_terms.specs.Lines.{IsStart}
 use Rattle.bb_base.proofs.Contained.{contains_at}
-use Rattle.bb_rules.proofs.NetLemmas.{d_within}
+use Rattle.bb_terms.proofs.NetLemmas.{d_within}
 use Rattle.bb_fits.proofs.Driven.{stands_within}
 use Rattle.bb_plan.proofs.StartLemmas.{begins_flop, begins_gate, never_input}
 use Rattle.bb_plan.proofs.lines.start_of.Goals as goal

@@ -3,7 +3,7 @@ use Rattle.std.specs.Prelude.{slice_set}
 use Rattle.std.proofs.lemmas.Bool.Decides.{nat_tests}
 use Rattle.std.proofs.lemmas.Grind.{common_steps}
 use Rattle.std.proofs.lemmas.Option.{slice_get-get_or}
-use Rattle.bb_rules.specs.Kinds.{is_source}
+use Rattle.bb_terms.specs.Kinds.{is_source}
 use Rattle.bb_plan.specs.declared.chain.Link.{Link}
 use Rattle.bb_plan.specs.Chain.{AreOnNets, HaveOneSource}
 use Rattle.bb_plan.proofs.sources.note_sources.Goals as goal

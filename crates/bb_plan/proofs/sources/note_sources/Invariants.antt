@@ -1,5 +1,5 @@
 use Rattle.std.proofs.Common.{◌≡◌, ◌<◌, ℕ, true, length, slice_index, slice_get, Some}
-use Rattle.bb_rules.specs.Kinds.{is_source}
+use Rattle.bb_terms.specs.Kinds.{is_source}
 use Rattle.bb_plan.specs.declared.chain.Link.{Link}
 use Rattle.bb_plan.proofs.sources.note_sources.Given as goal
 

@@ -1,5 +1,5 @@
 use Rattle.std.proofs.Common.{◌≡◌, ◌||◌, ℕ, length, take}
-use Rattle.bb_segment.specs.Support.{stop_at}
+use Rattle.bb_terms.specs.Support.{stop_at}
 use Rattle.bb_plan.specs.Chain.{has_cut}
 use Rattle.bb_plan.proofs.stops.add_cuts.Given as goal
 

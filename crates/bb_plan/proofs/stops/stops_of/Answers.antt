@@ -1,7 +1,7 @@
 use Rattle.std.proofs.Common.{arith, ◌<◌, ◌^◌, length, sym, subst}
-use Rattle.bb_netlist.specs.Net.{driven}
-use Rattle.bb_netlist.specs.Levels.{AreGates}
-use Rattle.bb_netlist.proofs.GateLemmas.{gates_fit}
+use Rattle.bb_base.specs.Net.{driven}
+use Rattle.bb_base.specs.Levels.{AreGates}
+use Rattle.bb_base.proofs.GateLemmas.{gates_fit}
 use Rattle.bb_plan.proofs.stops.stops_of.Goals as goal
 
 pub free_nets-requires : goal.free_nets-requires

@@ -1,9 +1,9 @@
 use Rattle.std.proofs.Common.{◌≡◌, List, refl, sym, subst, ◌∙◌}
 use Rattle.std.specs.List.{AllZip}
-use Rattle.bb_rules.specs.declared.fault.PlanFault.TheVariants.{Rule}
-use Rattle.bb_rules.specs.Plan.{PlanValue, observers}
-use Rattle.bb_rules.specs.Rules.{Period}
-use Rattle.bb_rules.specs.Valid.{SegmentValue, IsRuleFault, IsValidPlan, IsSegmentOf}
+use Rattle.bb_terms.specs.declared.fault.PlanFault.TheVariants.{Rule}
+use Rattle.bb_terms.specs.Plan.{PlanValue, observers}
+use Rattle.bb_terms.specs.Rules.{Period}
+use Rattle.bb_terms.specs.Valid.{SegmentValue, IsRuleFault, IsValidPlan, IsSegmentOf}
 use Rattle.bb_fits.proofs.Stages.{meets_more, first_fault}
 use Rattle.bb_plan.proofs.FaultLemmas.{valid_plan, same_fault}
 use Rattle.bb_plan.proofs.validity.validate.Goals as goal

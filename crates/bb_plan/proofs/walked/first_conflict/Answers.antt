@@ -1,6 +1,6 @@
 use Rattle.std.proofs.Common.{arith, ◌≡◌, ◌<◌, ℕ, List, length, All, sym, ap, subst, ◌∙◌, IfOk, Some, None, false}
 use Rattle.bb_base.specs.Places.{EachAt, IsFirstWrong}
-use Rattle.bb_rules.specs.Plan.{RegisterValue, PlanValue}
+use Rattle.bb_terms.specs.Plan.{RegisterValue, PlanValue}
 use Rattle.bb_plan.specs.Clashes.{feeders_at, feeders_in, session_clashes}
 use Rattle.bb_plan.proofs.ConflictLemmas.{few_sessions, sessions_low, registers_low, lines_low, sources_low, feeders_low, conflict_answer}
 use Rattle.bb_plan.proofs.walked.first_conflict.Goals as goal

@@ -1,14 +1,14 @@
 use Rattle.std.proofs.Common.{◌≡◌, ◌<◌, ◌≤◌, List, length, All, refl, sym, subst, ◌∙◌, Some}
 use Rattle.std.specs.List.{AllZip}
-use Rattle.bb_rules.specs.Plan.{observers}
-use Rattle.bb_rules.specs.Rules.{Widths, Conflicts, Codes}
+use Rattle.bb_terms.specs.Plan.{observers}
+use Rattle.bb_terms.specs.Rules.{Widths, Conflicts, Codes}
 use Rattle.bb_fits.specs.Answers.{IsVerdict}
 use Rattle.bb_fits.proofs.Stages.{meets_more}
 use Rattle.bb_plan.specs.Layout.{LineValue, IsObservedLine}
 use Rattle.bb_plan.proofs.CodingLemmas.{segments_are, codes_hold, first_dependent}
 use Rattle.bb_plan.proofs.ConflictLemmas.{sources_few, sources_low}
 use Rattle.bb_plan.proofs.FaultLemmas.{too_wide, conflicting, uncoded, same_fault}
-use Rattle.bb_rules.specs.declared.fault.PlanFault.TheVariants.{Rule}
+use Rattle.bb_terms.specs.declared.fault.PlanFault.TheVariants.{Rule}
 use Rattle.bb_plan.proofs.walked.walked_segments.Goals as goal
 
 pub returns-in-Err-clause-fault : goal.returns-in-Err-clause-fault

@@ -1,7 +1,7 @@
 use Rattle.std.proofs.Common.{subst, arith}
-use Rattle.bb_segment.specs.Cuts.{is_stop_with}
-use Rattle.bb_segment.specs.Paths.{Behind}
-use Rattle.bb_segment.specs.Support.{AreLeaves}
+use Rattle.bb_terms.specs.Cuts.{is_stop_with}
+use Rattle.bb_terms.specs.Paths.{Behind}
+use Rattle.bb_terms.specs.Support.{AreLeaves}
 use Rattle.bb_planning_tests.proofs.chosen.drafted.Goals as goal
 
 pub cells-requires-clause-narrow : goal.cells-requires-clause-narrow

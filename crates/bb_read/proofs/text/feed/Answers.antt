@@ -1,7 +1,7 @@
 use Rattle.std.proofs.Common.{◌∙◌, ap, sym, subst, ◌++◌, Err}
 use Rattle.bb_lex.specs.Machine as lexing
 use Rattle.bb_parse.specs.Standing as standing
-use Rattle.bb_parse.specs.Texts.{HasParseFault}
+use Rattle.bb_grammar.specs.Texts.{HasParseFault}
 use Rattle.bb_read.specs.declared.fault.ReadFault.TheVariants as read
 use Rattle.bb_read.specs.Faults.{of_lex, of_parse}
 use Rattle.bb_read.specs.TextReading.{reading}

@@ -2,7 +2,7 @@ use Rattle.std.proofs.Common.{◌≡◌, ◌++◌, ap, arith, [], Err}
 use Rattle.std.proofs.lemmas.Grind.{common_steps}
 use Rattle.std.proofs.lemmas.Bool.Decides.{nat_tests}
 use Rattle.std.proofs.lemmas.List.{take-append-drop}
-use Rattle.bb_parse.specs.Texts.{HasLexFault, HasParseFault}
+use Rattle.bb_grammar.specs.Texts.{HasLexFault, HasParseFault}
 use Rattle.bb_read.specs.declared.fault.ReadFault.TheVariants as read
 use Rattle.bb_read.specs.TextReading.{reading}
 use Rattle.bb_read.proofs.TextLemmas.{part_starts, part_goes, part_broken, part_ends, no_bytes, whole_at_end, err_gives}

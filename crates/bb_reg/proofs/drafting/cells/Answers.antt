@@ -1,9 +1,9 @@
 use Rattle.std.proofs.Common.{arith, ◌≡◌, ◌+◌, ◌*◌, ◌≤◌, ◌∙◌, List, ℕ, Bool, length, map, sym, ap, subst, Contains, not}
 use Rattle.std.specs.Prelude.{filter}
 use Rattle.std.specs.List.{AllZip}
-use Rattle.bb_netlist.specs.Net.{Flop, driven}
-use Rattle.bb_segment.specs.Paths.{AtNet}
-use Rattle.bb_segment.specs.Support.{AreLeaves, stop_at}
+use Rattle.bb_base.specs.Net.{Flop, driven}
+use Rattle.bb_terms.specs.Paths.{AtNet}
+use Rattle.bb_terms.specs.Support.{AreLeaves, stop_at}
 use Rattle.bb_segment.proofs.Outcomes.{ok_then}
 use Rattle.bb_reg.specs.Draft.{AreCells}
 use Rattle.bb_reg.specs.LineTables.{AreNarrow}

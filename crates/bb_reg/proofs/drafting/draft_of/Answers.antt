@@ -1,9 +1,9 @@
 use Rattle.std.proofs.Common.{arith, ◌≡◌, ◌∙◌, ◌++◌, ℕ, length, map, not, ap}
 use Rattle.bb_base.proofs.Lists.{length_map}
-use Rattle.bb_netlist.specs.Net.{Flop}
-use Rattle.bb_segment.specs.Paths.{AtNet}
-use Rattle.bb_segment.specs.Support.{AreLeaves, stop_at}
-use Rattle.bb_rules.specs.declared.kind.Kind.TheVariants.{State, Watch, Cut, Output}
+use Rattle.bb_base.specs.Net.{Flop}
+use Rattle.bb_terms.specs.Paths.{AtNet}
+use Rattle.bb_terms.specs.Support.{AreLeaves, stop_at}
+use Rattle.bb_terms.specs.declared.kind.Kind.TheVariants.{State, Watch, Cut, Output}
 use Rattle.bb_reg.specs.Draft.{those, bare_cell, source_cells}
 use Rattle.bb_reg.specs.LineTables.{reading_in}
 use Rattle.bb_reg.proofs.LineLemmas.{zip_long, reading_long}

@@ -1,7 +1,7 @@
 use Rattle.std.proofs.Common.{◌≡◌, ◌++◌, [], List, map, ap, ◌∙◌, append_assoc}
 use Rattle.bb_base.proofs.Lists.{map_twice}
-use Rattle.bb_rules.specs.declared.plan.Cell.{Cell}
-use Rattle.bb_rules.specs.declared.kind.Kind.TheVariants.{State, Watch, Cut, Output}
+use Rattle.bb_terms.specs.declared.plan.Cell.{Cell}
+use Rattle.bb_terms.specs.declared.kind.Kind.TheVariants.{State, Watch, Cut, Output}
 use Rattle.bb_reg.specs.Draft.{bare_cell, those}
 use Rattle.bb_reg.proofs.drafting.observers_of.Goals as goal
 

@@ -1,6 +1,6 @@
 use Rattle.std.proofs.Common.{◌≡◌, take, not}
 use Rattle.std.specs.Prelude.{filter}
-use Rattle.bb_segment.specs.Support.{stop_at}
+use Rattle.bb_terms.specs.Support.{stop_at}
 use Rattle.bb_reg.proofs.drafting.open_nets.Given as goal
 
 abbrev pub invariant-nets : goal.invariant-nets

@@ -1,7 +1,7 @@
 use Rattle.std.proofs.Common.{◌≡◌, ◌++◌, [], List, map, ap, ◌∙◌}
 use Rattle.bb_base.proofs.Lists.{map_twice}
-use Rattle.bb_rules.specs.declared.plan.Cell.{Cell}
-use Rattle.bb_rules.specs.declared.kind.Kind.TheVariants.{Input, Split}
+use Rattle.bb_terms.specs.declared.plan.Cell.{Cell}
+use Rattle.bb_terms.specs.declared.kind.Kind.TheVariants.{Input, Split}
 use Rattle.bb_reg.specs.Draft.{bare_cell, those}
 use Rattle.bb_reg.proofs.drafting.sources_of.Goals as goal
 

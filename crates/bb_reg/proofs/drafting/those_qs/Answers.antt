@@ -1,5 +1,5 @@
 use Rattle.std.proofs.Common.{◌∙◌, ◌++◌, ◌∷◌, [], ℕ, map, take, sym, ap}
-use Rattle.bb_netlist.specs.Net.{Flop}
+use Rattle.bb_base.specs.Net.{Flop}
 use Rattle.bb_base.proofs.Lists.{map_join}
 use Rattle.bb_reg.specs.Draft.{those}
 use Rattle.bb_reg.proofs.DraftLemmas.{those_yes, those_no}

@@ -1,10 +1,10 @@
 use Rattle.std.proofs.Common.{◌≡◌, ◌+◌, ◌∙◌, ◌<◌, List, ℕ, sym, ap, subst, length, take, map, ◌∷◌, [], Contains, get_or}
 use Rattle.std.specs.List.{AllZip}
-use Rattle.bb_netlist.specs.Net.{Flop, driven}
+use Rattle.bb_base.specs.Net.{Flop, driven}
 use Rattle.bb_base.proofs.Lists.{map_join}
-use Rattle.bb_segment.specs.Paths.{Start, AtNet}
-use Rattle.bb_segment.specs.Support.{AreLeaves, stop_at}
-use Rattle.bb_segment.specs.declared.start.Start.TheVariants.{Net}
+use Rattle.bb_terms.specs.Paths.{Start, AtNet}
+use Rattle.bb_terms.specs.Support.{AreLeaves, stop_at}
+use Rattle.bb_terms.specs.declared.start.Start.TheVariants.{Net}
 use Rattle.bb_segment.proofs.StartLemmas.{start_net}
 use Rattle.bb_segment.proofs.WalkLemmas.{item_in}
 use Rattle.bb_reg.proofs.LineLemmas.{flop_reads, zip_more}

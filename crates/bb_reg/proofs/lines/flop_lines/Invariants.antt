@@ -1,7 +1,7 @@
 use Rattle.std.proofs.Common.{◌≡◌, map, take}
 use Rattle.std.specs.List.{AllZip}
-use Rattle.bb_segment.specs.Paths.{AtNet}
-use Rattle.bb_segment.specs.Support.{AreLeaves, stop_at}
+use Rattle.bb_terms.specs.Paths.{AtNet}
+use Rattle.bb_terms.specs.Support.{AreLeaves, stop_at}
 use Rattle.bb_reg.proofs.lines.flop_lines.Given as goal
 
 abbrev pub invariant-flops : goal.invariant-flops

@@ -1,6 +1,6 @@
 use Rattle.std.proofs.Common.{◌≡◌, ℕ, length, take}
-use Rattle.bb_segment.specs.Support.{stop_at}
-use Rattle.bb_segment.specs.Paths.{is_free}
+use Rattle.bb_terms.specs.Support.{stop_at}
+use Rattle.bb_terms.specs.Paths.{is_free}
 use Rattle.bb_reg.proofs.lines.free_nets.Given as goal
 
 abbrev pub invariant-gates : goal.invariant-gates

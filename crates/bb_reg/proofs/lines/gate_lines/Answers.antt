@@ -1,7 +1,7 @@
 use Rattle.std.proofs.Common.{◌+◌, ◌∙◌, List, ℕ, sym, ap, subst, take, map, ◌∷◌, []}
 use Rattle.std.specs.List.{AllZip}
 use Rattle.bb_base.proofs.Lists.{map_join}
-use Rattle.bb_segment.specs.Support.{stop_at}
+use Rattle.bb_terms.specs.Support.{stop_at}
 use Rattle.bb_reg.specs.LineTables.{IsLineBehind}
 use Rattle.bb_reg.proofs.LineLemmas.{zip_more}
 use Rattle.bb_reg.proofs.lines.gate_lines.Goals as goal

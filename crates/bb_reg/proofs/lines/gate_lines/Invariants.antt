@@ -1,6 +1,6 @@
 use Rattle.std.proofs.Common.{◌≡◌, map, take}
 use Rattle.std.specs.List.{AllZip}
-use Rattle.bb_segment.specs.Support.{stop_at}
+use Rattle.bb_terms.specs.Support.{stop_at}
 use Rattle.bb_reg.specs.LineTables.{IsLineBehind}
 use Rattle.bb_reg.proofs.lines.gate_lines.Given as goal
 

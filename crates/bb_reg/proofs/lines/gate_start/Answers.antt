@@ -1,10 +1,10 @@
 use Rattle.std.proofs.Common.{◌≡◌, ◌∙◌, sym, ap, Some, true, false}
 use Rattle.std.specs.Option.{option_map}
 use Rattle.std.proofs.lemmas.Option.{slice_get_within}
-use Rattle.bb_netlist.specs.Order.{is_empty}
+use Rattle.bb_base.specs.Order.{is_empty}
 use Rattle.bb_base.proofs.Contained.{contains_at}
-use Rattle.bb_segment.specs.Paths.{Behind}
-use Rattle.bb_segment.proofs.ReadLemmas.{by_other}
+use Rattle.bb_terms.specs.Paths.{Behind}
+use Rattle.bb_terms.proofs.ReadLemmas.{by_other}
 use Rattle.bb_reg.proofs.lines.gate_start.Goals as goal
 
 pub unreachable-requires : goal.unreachable-requires

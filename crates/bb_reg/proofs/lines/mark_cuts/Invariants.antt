@@ -1,6 +1,6 @@
 use Rattle.std.proofs.Common.{◌≡◌, ◌||◌, ℕ, nat_eq, length, take}
 use Rattle.std.specs.List.{list_any}
-use Rattle.bb_segment.specs.Support.{stop_at}
+use Rattle.bb_terms.specs.Support.{stop_at}
 use Rattle.bb_reg.proofs.lines.mark_cuts.Given as goal
 
 abbrev pub invariant-cuts : goal.invariant-cuts

@@ -1,8 +1,8 @@
 use Rattle.std.proofs.Common.{arith, ◌<◌, ◌^◌, ◌∙◌, List, ℕ, sym, ap, subst, length}
 use Rattle.std.specs.List.{AllByRecursion}
-use Rattle.bb_netlist.specs.Net.{Gate, driven}
-use Rattle.bb_netlist.specs.Levels.{AreGates}
-use Rattle.bb_netlist.proofs.GateLemmas.{gates_fit}
+use Rattle.bb_base.specs.Net.{Gate, driven}
+use Rattle.bb_base.specs.Levels.{AreGates}
+use Rattle.bb_base.proofs.GateLemmas.{gates_fit}
 use Rattle.bb_reg.proofs.NarrowLemmas.{all_within}
 use Rattle.bb_reg.proofs.lines.stops_of.Goals as goal
 

@@ -1,7 +1,7 @@
 use Rattle.std.proofs.Common.{◌≡◌, ◌+◌, ◌≤◌, ◌++◌, [], length, map, ap, sym, subst, ◌∙◌}
 use Rattle.std.specs.List.{flat_map}
 use Rattle.bb_reg.specs.Draft.{DraftValue}
-use Rattle.bb_rules.specs.Plan.{RegisterValue}
+use Rattle.bb_terms.specs.Plan.{RegisterValue}
 use Rattle.bb_reg.specs.Chosen.{GroupedValue, in_runs, register_of}
 use Rattle.bb_reg.specs.Fitting.{cell_at, leaves_at}
 use Rattle.bb_reg.proofs.NaturalLemmas.{grouped_by_number}

@@ -1,5 +1,5 @@
-use Rattle.bb_rules.proofs.NetLemmas.{d_is}
-use Rattle.bb_rules.proofs.StopLemmas.{gives_q, takes_its_d, flop_free}
+use Rattle.bb_terms.proofs.NetLemmas.{d_is}
+use Rattle.bb_terms.proofs.StopLemmas.{gives_q, takes_its_d, flop_free}
 use Rattle.bb_rules.proofs.laws.flops_have_cells.Goals as goal
 
 pub returns-clause-gives : goal.returns-clause-gives

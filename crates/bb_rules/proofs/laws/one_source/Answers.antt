@@ -1,4 +1,4 @@
-use Rattle.bb_rules.proofs.StopLemmas.{leaf_within, source_at}
+use Rattle.bb_terms.proofs.StopLemmas.{leaf_within, source_at}
 use Rattle.bb_rules.proofs.SourceLemmas.{one_source}
 use Rattle.bb_rules.proofs.laws.one_source.Goals as goal
 

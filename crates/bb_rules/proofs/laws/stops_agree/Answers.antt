@@ -1,4 +1,4 @@
-use Rattle.bb_rules.proofs.StopLemmas.{stops_are, stops_have_sources}
+use Rattle.bb_terms.proofs.StopLemmas.{stops_are, stops_have_sources}
 use Rattle.bb_rules.proofs.laws.stops_agree.Goals as goal
 
 pub returns-clause-stops : goal.returns-clause-stops

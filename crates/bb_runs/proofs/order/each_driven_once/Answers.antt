@@ -1,4 +1,4 @@
-use Rattle.bb_netlist.specs.Net.{driven}
+use Rattle.bb_base.specs.Net.{driven}
 use Rattle.bb_runs.proofs.Counting.{once_each}
 use Rattle.bb_runs.proofs.order.each_driven_once.Goals as goal
 

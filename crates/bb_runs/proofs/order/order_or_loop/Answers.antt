@@ -1,4 +1,4 @@
-use Rattle.bb_netlist.proofs.CycleLemmas.{no_cycle}
+use Rattle.bb_base.proofs.CycleLemmas.{no_cycle}
 use Rattle.bb_netlist.proofs.WalkLemmas.{loop_cycles}
 use Rattle.bb_runs.proofs.Walks.{order_or_loop_of}
 use Rattle.bb_runs.proofs.order.order_or_loop.Goals as goal

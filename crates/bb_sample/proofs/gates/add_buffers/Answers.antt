@@ -1,6 +1,6 @@
 use Rattle.std.proofs.Common.{◌≡◌, ◌∙◌, [], ◌∷◌, arith}
 use Rattle.bb_base.specs.declared.operator.Op.TheVariants.{Buf}
-use Rattle.bb_net.specs.Building.{with_gates}
+use Rattle.bb_base.specs.Building.{with_gates}
 use Rattle.bb_sample.specs.Sample.{buffer_at}
 use Rattle.bb_sample.proofs.GateLemmas.{gates_more, gates_long}
 use Rattle.bb_sample.proofs.gates.add_buffers.Goals as goal

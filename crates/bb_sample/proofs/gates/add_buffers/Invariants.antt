@@ -1,6 +1,6 @@
 use Rattle.std.proofs.Common.{◌≡◌, map}
 use Rattle.std.specs.List.{range_with_len}
-use Rattle.bb_net.specs.Building.{with_gates}
+use Rattle.bb_base.specs.Building.{with_gates}
 use Rattle.bb_sample.specs.Sample.{buffer_at}
 use Rattle.bb_sample.proofs.gates.add_buffers.Given as goal
 

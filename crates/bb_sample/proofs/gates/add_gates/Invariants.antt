@@ -1,6 +1,6 @@
 use Rattle.std.proofs.Common.{◌≡◌, ◌*◌, map}
 use Rattle.std.specs.List.{range_with_len}
-use Rattle.bb_net.specs.Building.{with_gates}
+use Rattle.bb_base.specs.Building.{with_gates}
 use Rattle.bb_sample.specs.Draws.{generator_after}
 use Rattle.bb_sample.specs.Sample.{gate_at}
 use Rattle.bb_sample.proofs.gates.add_gates.Given as goal

@@ -1,5 +1,5 @@
 use Rattle.std.proofs.Common.{length, ap, sym, ◌∙◌, arith}
-use Rattle.bb_net.specs.Named.{Named}
+use Rattle.bb_base.specs.Named.{Named}
 use Rattle.bb_sample.specs.Sample.{gate_at}
 use Rattle.bb_sample.proofs.DrawLemmas.{after_none}
 use Rattle.bb_sample.proofs.GateLemmas.{gates_long}

@@ -1,6 +1,6 @@
 use Rattle.std.proofs.Common.{◌≡◌, ◌↔◌, ℕ, ◌<◌, length, IsSome, Err, sym, ap, subst, arith}
-use Rattle.bb_netlist.specs.Net.{driven, times}
-use Rattle.bb_net.specs.Named.{Named}
+use Rattle.bb_base.specs.Net.{driven, times}
+use Rattle.bb_base.specs.Named.{Named}
 use Rattle.bb_net.proofs.OnlyMemory.{finish_memory}
 use Rattle.bb_sample.proofs.WholeLemmas.{clocked, one_driver, names_count}
 use Rattle.bb_sample.proofs.made.finished.Goals as goal

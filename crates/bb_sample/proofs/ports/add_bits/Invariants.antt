@@ -1,5 +1,5 @@
 use Rattle.std.proofs.Common.{◌≡◌, All}
-use Rattle.bb_net.specs.Building.{IsEarlier}
+use Rattle.bb_base.specs.Building.{IsEarlier}
 use Rattle.bb_sample.specs.Sample.{bits_of}
 use Rattle.bb_sample.specs.Laying.{with_more_bits}
 use Rattle.bb_sample.proofs.ports.add_bits.Given as goal

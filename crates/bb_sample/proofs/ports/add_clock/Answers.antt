@@ -1,6 +1,6 @@
 use Rattle.std.proofs.Common.{◌≡◌, Err, Some, None, ap, sym, ◌∙◌, arith, length}
-use Rattle.bb_net.specs.Named.{Named, lookup_of}
-use Rattle.bb_net.specs.Building.{with_variable}
+use Rattle.bb_base.specs.Named.{Named, lookup_of}
+use Rattle.bb_base.specs.Building.{with_variable}
 use Rattle.bb_net.proofs.OnlyMemory.{variable_memory}
 use Rattle.bb_sample.proofs.StageLemmas.{clock_variable, clock_added}
 use Rattle.bb_sample.proofs.ports.add_clock.Goals as goal

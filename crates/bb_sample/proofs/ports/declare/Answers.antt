@@ -1,5 +1,5 @@
 use Rattle.std.proofs.Common.{◌≡◌, Err, None, ap, sym, ◌∙◌, arith, length}
-use Rattle.bb_net.specs.Named.{lookup_of}
+use Rattle.bb_base.specs.Named.{lookup_of}
 use Rattle.bb_net.proofs.OnlyMemory.{variable_memory}
 use Rattle.bb_sample.proofs.VectorLemmas.{port_few}
 use Rattle.bb_sample.proofs.ports.declare.Goals as goal

@@ -1,4 +1,4 @@
-use Rattle.bb_segment.proofs.FunctionLemmas.{computes}
+use Rattle.bb_terms.proofs.FunctionLemmas.{computes}
 use Rattle.bb_segment.proofs.laws.lines_compute.Goals as goal
 
 pub returns-clause-by_number : goal.returns-clause-by_number

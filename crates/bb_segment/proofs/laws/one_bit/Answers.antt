@@ -1,4 +1,4 @@
-use Rattle.bb_segment.proofs.FunctionLemmas.{one_bit}
+use Rattle.bb_terms.proofs.FunctionLemmas.{one_bit}
 use Rattle.bb_segment.proofs.laws.one_bit.Goals as goal
 
 pub returns : goal.returns

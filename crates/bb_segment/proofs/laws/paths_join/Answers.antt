@@ -1,4 +1,4 @@
-use Rattle.bb_segment.proofs.PathLemmas.{paths_join, path_renamed, leaf_renamed}
+use Rattle.bb_terms.proofs.PathLemmas.{paths_join, path_renamed, leaf_renamed}
 use Rattle.bb_segment.proofs.laws.paths_join.Goals as goal
 
 pub returns-clause-join : goal.returns-clause-join

@@ -1,5 +1,5 @@
 use Rattle.std.proofs.Common.{sym, ◌∙◌}
-use Rattle.bb_segment.specs.Support.{stop_at}
+use Rattle.bb_terms.specs.Support.{stop_at}
 use Rattle.bb_segment.proofs.WalkLemmas.{item_in}
 use Rattle.bb_segment.proofs.SetLemmas.{count_more, count_same}
 use Rattle.bb_segment.proofs.supports.count_stops.Goals as goal

@@ -1,6 +1,6 @@
 use Rattle.std.proofs.Common.{sym, ◌∙◌, length, subst}
 use Rattle.std.specs.List.Sorted.{IsPermutation}
-use Rattle.bb_segment.specs.Support.{stop_at}
+use Rattle.bb_terms.specs.Support.{stop_at}
 use Rattle.bb_segment.proofs.SetLemmas.{stops_listed, stops_sorted}
 use Rattle.bb_segment.proofs.supports.leaves_among.Goals as goal
 

@@ -1,6 +1,6 @@
 use Rattle.std.proofs.Common.{arith, ℕ, sym, ap, ◌∙◌, ◌++◌, ◌∷◌, []}
 use Rattle.arrayvec.specs.ArrayVec.{ArrayVec}
-use Rattle.bb_segment.specs.Support.{stop_at}
+use Rattle.bb_terms.specs.Support.{stop_at}
 use Rattle.bb_segment.proofs.WalkLemmas.{item_in}
 use Rattle.bb_segment.proofs.SetLemmas.{kept_more, kept_same, kept_room}
 use Rattle.bb_segment.proofs.supports.stops_among.Goals as goal

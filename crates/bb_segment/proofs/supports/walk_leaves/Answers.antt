@@ -1,5 +1,5 @@
 use Rattle.std.proofs.Common.{arith, ◌≡◌, ◌<◌, ℕ, length, List, take}
-use Rattle.bb_segment.specs.Support.{stop_at, HasLeaves}
+use Rattle.bb_terms.specs.Support.{stop_at, HasLeaves}
 use Rattle.bb_segment.specs.Among.{AreStops}
 use Rattle.bb_segment.proofs.Outcomes.{ok_then, err_then}
 use Rattle.bb_segment.proofs.WalkLemmas.{met_within}

@@ -1,9 +1,9 @@
 use Rattle.std.proofs.Common.{arith, ◌∙◌, subst, ap, [], take, Contains}
-use Rattle.bb_netlist.specs.Net.{Gate}
+use Rattle.bb_base.specs.Net.{Gate}
 use Rattle.bb_segment.specs.Walks.{HasMore}
-use Rattle.bb_segment.specs.Paths.{starts}
+use Rattle.bb_terms.specs.Paths.{starts}
 use Rattle.bb_segment.proofs.WalkLemmas.{met_first}
-use Rattle.bb_segment.proofs.ReadLemmas.{input_within}
+use Rattle.bb_terms.proofs.ReadLemmas.{input_within}
 use Rattle.bb_segment.proofs.StartLemmas.{start_net, start_gate, starts_gate, read_gate}
 use Rattle.bb_base.proofs.Contained.{contains_at}
 use Rattle.bb_segment.proofs.walk.begin.Goals as goal

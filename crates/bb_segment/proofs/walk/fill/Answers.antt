@@ -1,6 +1,6 @@
 use Rattle.std.proofs.Common.{take}
-use Rattle.bb_segment.specs.Paths.{starts}
-use Rattle.bb_segment.specs.Support.{stop_at}
+use Rattle.bb_terms.specs.Paths.{starts}
+use Rattle.bb_terms.specs.Support.{stop_at}
 use Rattle.bb_segment.proofs.WalkLemmas.{reached_from, only_met}
 use Rattle.bb_segment.proofs.walk.fill.Goals as goal
 

@@ -1,6 +1,6 @@
 use Rattle.std.proofs.Common.{arith, ◌∙◌, take, refl}
 use Rattle.std.proofs.lemmas.List.{length-take-le}
-use Rattle.bb_segment.specs.Support.{stop_at}
+use Rattle.bb_terms.specs.Support.{stop_at}
 use Rattle.bb_segment.proofs.WalkLemmas.{walk_on, walk_ends, walk_first, met_within, end_low, front_at}
 use Rattle.bb_base.proofs.Contained.{contains_at}
 use Rattle.bb_segment.proofs.walk.follow.Goals as goal

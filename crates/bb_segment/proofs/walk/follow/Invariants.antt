@@ -1,5 +1,5 @@
 use Rattle.std.proofs.Common.{◌≡◌, ◌≤◌, ◌-◌, length, take}
-use Rattle.bb_segment.specs.Support.{stop_at}
+use Rattle.bb_terms.specs.Support.{stop_at}
 use Rattle.bb_segment.specs.Walks.{IsMet, IsWalk}
 use Rattle.bb_segment.proofs.walk.follow.Given as goal
 

@@ -1,7 +1,7 @@
 use Rattle.std.proofs.Common.{arith, sym, subst, ◌∙◌, ap, length, Contains}
 use Rattle.std.proofs.lemmas.Option.{slice_get_within}
-use Rattle.bb_netlist.specs.Net.{Gate}
-use Rattle.bb_segment.proofs.ReadLemmas.{input_within, reads_none, reads_of, gate_driver, no_stop}
+use Rattle.bb_base.specs.Net.{Gate}
+use Rattle.bb_terms.proofs.ReadLemmas.{input_within, reads_none, reads_of, gate_driver, no_stop}
 use Rattle.bb_base.proofs.Contained.{contains_at, none_in}
 use Rattle.bb_segment.proofs.walk.read_behind.Goals as goal
 

@@ -1,9 +1,9 @@
 use Rattle.std.proofs.Common.{◌≡◌, ℕ, List, [], get_or, slice_get, Some, ap, sym, subst, ◌∙◌, Contains}
 use Rattle.std.specs.List.{AllByRecursion}
-use Rattle.bb_netlist.specs.Net.{Gate}
-use Rattle.bb_netlist.specs.Order.{drivers}
-use Rattle.bb_netlist.specs.Run.{Meets}
-use Rattle.bb_gf2.specs.Parity.{code_bit}
+use Rattle.bb_base.specs.Net.{Gate}
+use Rattle.bb_base.specs.Order.{drivers}
+use Rattle.bb_base.specs.Run.{Meets}
+use Rattle.bb_base.specs.Parity.{code_bit}
 use Rattle.bb_eqn.specs.Values.{bits_at}
 use Rattle.bb_word.specs.Lanes.{lane, in_lane, state_on}
 use Rattle.bb_sign.specs.Evaluation.{EvaluationValue, CanBeEvaluated}

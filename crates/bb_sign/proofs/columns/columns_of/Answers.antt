@@ -1,8 +1,8 @@
 use Rattle.std.proofs.Common.{arith, ◌≡◌, ◌<◌, ℕ, List, Option, length, sym, ap, subst, ◌∙◌, All}
 use Rattle.std.specs.List.{flat_map}
 use Rattle.bb_base.proofs.Lists.{whole_written}
-use Rattle.bb_netlist.specs.Net.{driven}
-use Rattle.bb_rules.specs.Plan.{RegisterValue, PlanValue}
+use Rattle.bb_base.specs.Net.{driven}
+use Rattle.bb_terms.specs.Plan.{RegisterValue, PlanValue}
 use Rattle.bb_sign.specs.Bits.{noted_column, last_column, AreReadColumns}
 use Rattle.bb_sign.proofs.ColumnLemmas.{registers_within, table_is}
 use Rattle.bb_sign.proofs.columns.columns_of.Goals as goal

@@ -1,6 +1,6 @@
 use Rattle.std.proofs.Common.{ap, ◌∙◌}
 use Rattle.std.specs.List.{flat_map}
-use Rattle.bb_rules.specs.Plan.{RegisterValue}
+use Rattle.bb_terms.specs.Plan.{RegisterValue}
 use Rattle.bb_sign.specs.Bits.{noted_column, last_column}
 use Rattle.bb_sign.proofs.ColumnLemmas.{registers_more}
 use Rattle.bb_sign.proofs.columns.note_registers.Goals as goal

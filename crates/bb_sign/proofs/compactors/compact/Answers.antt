@@ -1,5 +1,5 @@
 use Rattle.std.proofs.Common.{arith, ◌≡◌, ◌<◌, ◌^◌, ℕ, length, sym, ap, subst, ◌∙◌}
-use Rattle.bb_gf2.specs.Bits.{from_bits}
+use Rattle.bb_base.specs.Bits.{from_bits}
 use Rattle.bb_eqn.specs.Values.{bits_at}
 use Rattle.bb_word.specs.Lanes.{in_lane}
 use Rattle.bb_sign.specs.Compactors.{CompactorValue, start_bit, line_word, taken_in}

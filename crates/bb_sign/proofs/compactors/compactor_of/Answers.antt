@@ -1,8 +1,8 @@
 use Rattle.std.proofs.Common.{List, sym, ap, subst, ◌∙◌, All}
 use Rattle.std.specs.List.{AllZip}
-use Rattle.bb_rules.specs.declared.plan.Cell.{Cell}
-use Rattle.bb_rules.specs.Plan.{RegisterValue}
-use Rattle.bb_rules.specs.Rules.{Fits}
+use Rattle.bb_terms.specs.declared.plan.Cell.{Cell}
+use Rattle.bb_terms.specs.Plan.{RegisterValue}
+use Rattle.bb_terms.specs.Rules.{Fits}
 use Rattle.bb_sign.specs.Compactors.{IsCompactor, IsLineStart}
 use Rattle.bb_sign.proofs.CompactorLemmas.{cells_fit, with_lines}
 use Rattle.bb_sign.proofs.compactors.compactor_of.Goals as goal

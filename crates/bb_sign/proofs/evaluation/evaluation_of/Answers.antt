@@ -1,5 +1,5 @@
 use Rattle.std.proofs.Common.{arith, ◌≡◌, ◌≤◌, ◌<◌, ℕ, List, Option, length, map, ap, sym, subst, ◌∙◌, All}
-use Rattle.bb_netlist.specs.Net.{Gate, times, driven}
+use Rattle.bb_base.specs.Net.{Gate, times, driven}
 use Rattle.bb_eqn.proofs.Settled.{outs_below, outs_once}
 use Rattle.bb_sign.specs.Evaluation.{AreNotedSources, AreOpenGates}
 use Rattle.bb_sign.proofs.EvaluationLemmas.{evaluation_is}

@@ -1,5 +1,5 @@
 use Rattle.std.proofs.Common.{arith, ◌≡◌, ◌+◌, ◌<◌, ◌∷◌, [], ◌++◌, ℕ, length, drop, ap, sym, subst, ◌∙◌}
-use Rattle.bb_netlist.specs.Net.{Gate}
+use Rattle.bb_base.specs.Net.{Gate}
 use Rattle.bb_eqn.proofs.Settled.{order_within}
 use Rattle.bb_sign.specs.Evaluation.{AreOpenGates}
 use Rattle.bb_sign.proofs.GateLemmas.{walked, walked_with, walked_without, walked_end, open_gates}

@@ -1,6 +1,6 @@
 use Rattle.std.proofs.Common.{◌<◌, ℕ, List, length, sym, subst, ◌∙◌, All}
-use Rattle.bb_netlist.specs.Net.{Gate, driven}
-use Rattle.bb_segment.specs.Support.{StartExists}
+use Rattle.bb_base.specs.Net.{Gate, driven}
+use Rattle.bb_terms.specs.Support.{StartExists}
 use Rattle.bb_eqn.specs.Values.{bits_at}
 use Rattle.bb_eqn.proofs.Settled.{ins_below}
 use Rattle.bb_word.specs.Lanes.{in_lane}

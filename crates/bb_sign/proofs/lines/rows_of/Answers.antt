@@ -1,6 +1,6 @@
 use Rattle.std.proofs.Common.{arith, map, get_or-set_other, ap, ◌∙◌}
 use Rattle.std.proofs.lemmas.List.{length-set, take_all}
-use Rattle.bb_gf2.specs.Bits.{from_bits}
+use Rattle.bb_base.specs.Bits.{from_bits}
 use Rattle.bb_eqn.specs.Values.{bits_at}
 use Rattle.bb_word.specs.Lanes.{lane, in_lane}
 use Rattle.bb_sign.specs.Compactors.{start_bit}

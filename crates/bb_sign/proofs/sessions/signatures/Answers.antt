@@ -1,6 +1,6 @@
 use Rattle.std.proofs.Common.{arith, ◌≡◌, ◌<◌, ℕ, List, length, map, sym, ap, subst, ◌∙◌, slice_index, All}
 use Rattle.bb_base.proofs.Lists.{whole_written}
-use Rattle.bb_rules.specs.Plan.{PlanValue}
+use Rattle.bb_terms.specs.Plan.{PlanValue}
 use Rattle.bb_sign.specs.Compactors.{IsCompactor, AreSigned}
 use Rattle.bb_sign.proofs.ZipLemmas.{zip_long}
 use Rattle.bb_sign.proofs.SessionLemmas.{sessions_within, signatures_are, of_items, put_is}

@@ -1,6 +1,6 @@
 use Rattle.std.proofs.Common.{◌≡◌, ◌<◌, ◌*◌, ◌^◌, length, min}
-use Rattle.bb_netlist.specs.Net.{driven}
-use Rattle.bb_creg.specs.Register.{state_after}
+use Rattle.bb_base.specs.Net.{driven}
+use Rattle.bb_terms.specs.Register.{state_after}
 use Rattle.bb_sign.specs.Compactors.{AreHeld, AreSignedUntil}
 use Rattle.bb_sign.proofs.walk.walk.Given as goal
 

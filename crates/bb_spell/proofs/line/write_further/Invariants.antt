@@ -1,6 +1,6 @@
 use Rattle.std.proofs.Common.{◌≡◌, ◌++◌, drop, map}
 use Rattle.std.specs.List.{flat_map}
-use Rattle.bb_net.specs.Named.{net_text}
+use Rattle.bb_base.specs.Named.{net_text}
 use Rattle.bb_spell.specs.Spelling.{spelled_bit, further}
 use Rattle.bb_spell.proofs.line.write_further.Given as goal
 

@@ -1,8 +1,8 @@
 use Rattle.std.proofs.Common.{◌≡◌, ◌++◌, [], drop, map, Some}
 use Rattle.std.specs.List.{flat_map}
 use Rattle.bb_base.specs.Variables.{bit_of}
-use Rattle.bb_netlist.specs.Net.{renamed_flop}
-use Rattle.bb_net.specs.Named.{net_text}
+use Rattle.bb_base.specs.Net.{renamed_flop}
+use Rattle.bb_base.specs.Named.{net_text}
 use Rattle.bb_spell.specs.Canonical.{with_feed, GrowsFrom, flop_lines}
 use Rattle.bb_spell.proofs.text.put_clocked.Given as goal
 

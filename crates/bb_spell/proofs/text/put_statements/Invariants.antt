@@ -1,7 +1,7 @@
 use Rattle.std.proofs.Common.{◌≡◌, ◌++◌, [], drop, map}
 use Rattle.std.specs.List.{flat_map}
-use Rattle.bb_netlist.specs.Net.{renamed_gate}
-use Rattle.bb_net.specs.Named.{net_text}
+use Rattle.bb_base.specs.Net.{renamed_gate}
+use Rattle.bb_base.specs.Named.{net_text}
 use Rattle.bb_spell.specs.Spelling.{gate_line}
 use Rattle.bb_spell.specs.Canonical.{with_feed, GrowsFrom}
 use Rattle.bb_spell.proofs.text.put_statements.Given as goal

@@ -2,7 +2,7 @@ use Rattle.std.proofs.Common.{◌≡◌, drop, fold}
 use Rattle.std.specs.Prelude.{flat_map}
 use Rattle.bb_scope.specs.Names.{steps_names}
 use Rattle.bb_scope.specs.Uses.{AreNext}
-use Rattle.bb_gates.specs.Making.{driven_bits}
+use Rattle.bb_scope.specs.Making.{driven_bits}
 use Rattle.bb_targets.specs.Marks.{with_mark}
 use Rattle.bb_targets.proofs.items.mark_outs.Given as goal
 

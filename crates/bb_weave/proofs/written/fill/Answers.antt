@@ -1,12 +1,12 @@
 use Rattle.std.proofs.Common.{arith, ◌≡◌, ◌∙◌, ◌++◌, map, length, length-append, ap, sym, subst}
 use Rattle.std.specs.List.{AllByRecursion}
-use Rattle.bb_netlist.specs.Net.{renamed_gate, renamed_flop}
-use Rattle.bb_net.specs.Named.{Named}
-use Rattle.bb_net.specs.Building.{with_gates, with_flops}
-use Rattle.bb_rules.specs.Plan.{chain}
-use Rattle.bb_ctl.specs.Reads.{qs_from}
-use Rattle.bb_ctl.specs.Registers.{control_rows}
-use Rattle.bb_ctl.specs.Numbering.{net_at, wires_in, HasWire}
+use Rattle.bb_base.specs.Net.{renamed_gate, renamed_flop}
+use Rattle.bb_base.specs.Named.{Named}
+use Rattle.bb_base.specs.Building.{with_gates, with_flops}
+use Rattle.bb_terms.specs.Plan.{chain}
+use Rattle.bb_terms.specs.Reads.{qs_from}
+use Rattle.bb_terms.specs.Registers.{control_rows}
+use Rattle.bb_terms.specs.Numbering.{net_at, wires_in, HasWire}
 use Rattle.bb_ctl.specs.ControlNets.{ControlNetsValue}
 use Rattle.bb_lay.specs.Laying.{HasBothWires}
 use Rattle.bb_weave.proofs.FillLemmas.{distinct_after, stand_after, both_after, rows_joined, rows_long, all_filled}

@@ -1,7 +1,7 @@
 use Rattle.std.proofs.Common.{◌≡◌, ℕ, ap, refl, subst, Err}
-use Rattle.bb_netlist.specs.Net.{Netlist}
-use Rattle.bb_netlist.specs.Order.{IsCycle, IsOrder}
-use Rattle.bb_netlist.proofs.CycleLemmas.{no_cycle}
+use Rattle.bb_base.specs.Net.{Netlist}
+use Rattle.bb_base.specs.Order.{IsCycle, IsOrder}
+use Rattle.bb_base.proofs.CycleLemmas.{no_cycle}
 use Rattle.bb_netlist.specs.declared.order.OrderFault.{OrderFault}
 use Rattle.bb_netlist.specs.declared.order.OrderFault.TheVariants.{Loop, NoMemory}
 use Rattle.bb_weave.proofs.written.order_of.Goals as goal

@@ -1,14 +1,14 @@
 use Rattle.std.proofs.Common.{◌≡◌, ◌∙◌, ℕ, List, length, map, ap, sym, subst}
 use Rattle.std.specs.List.{range_with_len}
-use Rattle.bb_netlist.specs.Net.{renamed_gate, renamed_flop}
-use Rattle.bb_netlist.specs.Order.{HasOrder}
-use Rattle.bb_net.specs.Named.{Named, IsByBits}
-use Rattle.bb_net.specs.Building.{with_gates, with_flops}
+use Rattle.bb_base.specs.Net.{renamed_gate, renamed_flop}
+use Rattle.bb_base.specs.Order.{HasOrder}
+use Rattle.bb_base.specs.Named.{Named, IsByBits}
+use Rattle.bb_base.specs.Building.{with_gates, with_flops}
 use Rattle.bb_net.specs.Sites.{sited}
-use Rattle.bb_rules.specs.Plan.{chain}
-use Rattle.bb_ctl.specs.declared.wire.Wire.TheVariants.{Kept}
-use Rattle.bb_ctl.specs.Reads.{qs_from}
-use Rattle.bb_ctl.specs.Numbering.{net_at}
+use Rattle.bb_terms.specs.Plan.{chain}
+use Rattle.bb_terms.specs.declared.wire.Wire.TheVariants.{Kept}
+use Rattle.bb_terms.specs.Reads.{qs_from}
+use Rattle.bb_terms.specs.Numbering.{net_at}
 use Rattle.bb_normal.specs.Normal.{Normal}
 use Rattle.bb_weave.specs.Woven.{AreNetsOf}
 use Rattle.bb_weave.specs.Filling.{CanFill}

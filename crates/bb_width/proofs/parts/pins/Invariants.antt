@@ -1,7 +1,7 @@
 use Rattle.std.proofs.Common.{◌≡◌, ◌+◌, ◌<◌, ◌^◌, drop}
 use Rattle.bb_fault.specs.Firsts.{first_answer}
 use Rattle.bb_fault.specs.Limits.{told_count}
-use Rattle.bb_width.specs.Parts.{pin_fault, pins_nets}
+use Rattle.bb_scope.specs.Parts.{pin_fault, pins_nets}
 use Rattle.std.specs.Prelude.{flat_map}
 use Rattle.bb_scope.specs.Names.{pin_names}
 use Rattle.bb_scope.specs.Uses.{AreNext}

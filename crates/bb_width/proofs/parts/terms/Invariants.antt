@@ -1,8 +1,8 @@
 use Rattle.std.proofs.Common.{◌≡◌, ◌+◌, ◌<◌, ◌^◌, drop}
 use Rattle.bb_fault.specs.Firsts.{first_answer}
 use Rattle.bb_fault.specs.Limits.{told_count}
-use Rattle.bb_width.specs.Sizes.{expr_fault}
-use Rattle.bb_width.specs.Parts.{terms_nets}
+use Rattle.bb_scope.specs.Sizes.{expr_fault}
+use Rattle.bb_scope.specs.Parts.{terms_nets}
 use Rattle.std.specs.Prelude.{flat_map}
 use Rattle.bb_scope.specs.Names.{steps_names}
 use Rattle.bb_scope.specs.Uses.{AreNext}

@@ -1,6 +1,6 @@
 use Rattle.std.proofs.Common.{◌≡◌, ◌+◌, ◌-◌, ◌<◌, ◌^◌, take, drop}
 use Rattle.bb_fault.specs.Limits.{told_count}
-use Rattle.bb_width.specs.Sizes.{total}
+use Rattle.bb_scope.specs.Sizes.{total}
 use Rattle.bb_width.proofs.sizes.take_last.Given as goal
 
 abbrev pub invariant-loop : goal.invariant-loop

@@ -1,7 +1,7 @@
 use Rattle.std.proofs.Common.{sym, subst}
 use Rattle.bb_fault.specs.Limits.{told_count}
 use Rattle.bb_scope.specs.Answers.{IsAnswerWith}
-use Rattle.bb_width.specs.Sizes.{expr_fault, terminal_nets}
+use Rattle.bb_scope.specs.Sizes.{expr_fault, terminal_nets}
 use Rattle.bb_width.proofs.sizes.terminal.Goals as goal
 
 pub returns-in-Some : goal.returns-in-Some

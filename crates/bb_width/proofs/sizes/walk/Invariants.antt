@@ -1,6 +1,6 @@
 use Rattle.std.proofs.Common.{◌≡◌, [], ◌+◌, ◌<◌, ◌^◌, drop}
 use Rattle.bb_fault.specs.Limits.{told_count}
-use Rattle.bb_width.specs.Sizes.{steps_fault, steps_stack, steps_nets}
+use Rattle.bb_scope.specs.Sizes.{steps_fault, steps_stack, steps_nets}
 use Rattle.bb_scope.specs.Names.{steps_names}
 use Rattle.bb_scope.specs.Uses.{AreNext}
 use Rattle.bb_width.proofs.sizes.walk.Given as goal

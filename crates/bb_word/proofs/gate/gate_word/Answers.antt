@@ -2,7 +2,7 @@ use Rattle.std.proofs.Common.{ℕ, map, sym, ap, ◌∙◌}
 use Rattle.bb_base.specs.Booleans.{all_true, some_true, parity_of_bits}
 use Rattle.bb_base.specs.Operators.{first_bit}
 use Rattle.bb_base.specs.declared.operator.Op.TheVariants.{Nand, Nor, Xnor, Not, One}
-use Rattle.bb_netlist.specs.Net.{Gate}
+use Rattle.bb_base.specs.Net.{Gate}
 use Rattle.bb_eqn.specs.Values.{bits_at}
 use Rattle.bb_word.specs.Lanes.{in_lane}
 use Rattle.bb_word.proofs.LaneLemmas.{lane_ones, turned, same_gives}

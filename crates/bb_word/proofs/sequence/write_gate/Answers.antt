@@ -1,5 +1,5 @@
 use Rattle.std.proofs.Common.{◌≡◌, ℕ, set, ap, ◌∙◌}
-use Rattle.bb_netlist.specs.Net.{Gate}
+use Rattle.bb_base.specs.Net.{Gate}
 use Rattle.bb_word.specs.Lanes.{in_lane}
 use Rattle.bb_word.proofs.LaneLemmas.{lane_set}
 use Rattle.bb_word.proofs.sequence.write_gate.Goals as goal

@@ -1,7 +1,7 @@
 use Rattle.std.proofs.Common.{arith, ◌+◌, ◌/◌, get_or, drop, sym, ap, ◌∙◌}
 use Rattle.std.proofs.lemmas.List.{at_drop_more}
 use Rattle.bb_base.specs.Booleans.{xor}
-use Rattle.bb_gf2.specs.Parity.{code_of_bits}
+use Rattle.bb_base.specs.Parity.{code_of_bits}
 use Rattle.bb_word.specs.Lanes.{lane, in_lane}
 use Rattle.bb_word.proofs.SourceLemmas.{column_with, column_without}
 use Rattle.bb_word.proofs.source.column_word.Goals as goal

@@ -1,6 +1,6 @@
 use Rattle.std.proofs.Common.{◌≡◌, ◌<◌, ℕ, drop}
 use Rattle.bb_base.specs.Booleans.{xor}
-use Rattle.bb_gf2.specs.Parity.{code_of_bits}
+use Rattle.bb_base.specs.Parity.{code_of_bits}
 use Rattle.bb_word.specs.Lanes.{lane, in_lane}
 use Rattle.bb_word.proofs.source.column_word.Given as goal
 

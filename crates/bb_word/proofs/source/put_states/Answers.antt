@@ -1,7 +1,7 @@
 use Rattle.std.proofs.Common.{arith, ◌≡◌, ◌<◌, ◌+◌, ◌^◌, get_or, ap, subst, sym, ◌∙◌}
 use Rattle.std.specs.Int.{bit_at}
 use Rattle.std.proofs.lemmas.Nat.Bits.{bit_at-lt}
-use Rattle.bb_creg.specs.Register.{next_state}
+use Rattle.bb_terms.specs.Register.{next_state}
 use Rattle.bb_word.specs.Lanes.{state_on}
 use Rattle.bb_word.proofs.SourceLemmas.{below_put, lanes_more, state_on_more, state_on_zero}
 use Rattle.bb_word.proofs.source.put_states.Goals as goal

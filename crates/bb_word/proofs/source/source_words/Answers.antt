@@ -1,6 +1,6 @@
 use Rattle.std.proofs.Common.{arith, ◌<◌, ℕ, length, get_or, refl, length-set, ◌∙◌}
 use Rattle.std.proofs.lemmas.List.{get_or-replicate}
-use Rattle.bb_gf2.specs.Parity.{code_bit}
+use Rattle.bb_base.specs.Parity.{code_bit}
 use Rattle.bb_word.specs.Lanes.{state_on}
 use Rattle.bb_word.proofs.SourceLemmas.{code_in_lane, coded_more, state_on_below, inside_list, below_states}
 use Rattle.bb_word.proofs.source.source_words.Goals as goal

@@ -1,5 +1,5 @@
 use Rattle.std.proofs.Common.{◌≡◌, ◌<◌, ℕ, Some, length, slice_get, slice_index}
-use Rattle.bb_gf2.specs.Parity.{code_bit}
+use Rattle.bb_base.specs.Parity.{code_bit}
 use Rattle.bb_word.specs.Lanes.{lane, state_on}
 use Rattle.bb_word.proofs.source.source_words.Given as goal
 

@@ -1,8 +1,8 @@
 use Rattle.std.proofs.Common.{◌≡◌, Some, length, ap, ◌∙◌}
-use Rattle.bb_netlist.specs.Net.{Flop}
+use Rattle.bb_base.specs.Net.{Flop}
 use Rattle.bb_base.specs.Variables.{Bit}
-use Rattle.bb_net.specs.Named.{net_text}
-use Rattle.bb_net.specs.Building.{with_flop}
+use Rattle.bb_base.specs.Named.{net_text}
+use Rattle.bb_base.specs.Building.{with_flop}
 use Rattle.bb_base.proofs.BitLemmas.{bit_eq_itself}
 use Rattle.bb_lines.specs.Lines.{FlopLine}
 use Rattle.bb_canon.proofs.Drawing.{clock_found, ne_clock, flop_draws, below_more}

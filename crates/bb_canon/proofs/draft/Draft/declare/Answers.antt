@@ -1,8 +1,8 @@
 use Rattle.std.proofs.Common.{◌≡◌, Some, Err, ap, sym, subst, ◌∙◌}
 use Rattle.bb_base.specs.declared.variable.Variable.{Variable}
-use Rattle.bb_net.specs.Named.{lookup_of}
+use Rattle.bb_base.specs.Named.{lookup_of}
 use Rattle.bb_base.specs.Variables.{is_port}
-use Rattle.bb_net.specs.Building.{with_variable, IsTooMany}
+use Rattle.bb_base.specs.Building.{with_variable, IsTooMany}
 use Rattle.bb_canon.specs.Faults.{IsWant}
 use Rattle.bb_canon.proofs.Declaring.{declared_follows, declared_step, declare_want}
 use Rattle.bb_canon.proofs.draft.Draft.declare.Goals as goal

@@ -1,6 +1,6 @@
 use Rattle.std.proofs.Common.{◌≡◌, ◌+◌, Some, Err, length, ap, subst, sym, ◌∙◌}
 use Rattle.std.proofs.lemmas.Result.{err_from_is_err_and}
-use Rattle.bb_net.specs.Building.{with_net, net_limit}
+use Rattle.bb_base.specs.Building.{with_net, net_limit}
 use Rattle.bb_canon.proofs.Drawing.{named_drawn, bit_drawn, clock_drawn, net_draws, net_named, net_want, option_same}
 use Rattle.bb_base.proofs.BitLemmas.{same_bits}
 use Rattle.bb_canon.proofs.draft.Draft.net.Goals as goal

@@ -1,6 +1,6 @@
 use Rattle.std.proofs.Common.{◌∙◌, length, get_or, arith}
 use Rattle.std.proofs.lemmas.Result.{err_from_is_err_and}
-use Rattle.bb_net.specs.Named.{name_of_net, net_text}
+use Rattle.bb_base.specs.Named.{name_of_net, net_text}
 use Rattle.bb_canon.proofs.Drafts.{nets_more}
 use Rattle.bb_canon.proofs.Drawing.{text_at, net_at, named_push, named_all}
 use Rattle.bb_canon.proofs.draft.Draft.nets.Goals as goal

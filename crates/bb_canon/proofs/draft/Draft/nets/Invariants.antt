@@ -1,7 +1,7 @@
 use Rattle.std.proofs.Common.{◌≡◌, ◌≤◌, ◌<◌, ℕ, List, length, map, take, All}
 use Rattle.std.specs.List.{AllByRecursion}
-use Rattle.bb_netlist.specs.Net.{Gate, Flop}
-use Rattle.bb_net.specs.Named.{Named, name_of_net, net_text}
+use Rattle.bb_base.specs.Net.{Gate, Flop}
+use Rattle.bb_base.specs.Named.{Named, name_of_net, net_text}
 use Rattle.bb_spell.specs.Limits.{IsBuildable}
 use Rattle.bb_canon.specs.Toward.{IsDrawn}
 use Rattle.bb_canon.proofs.draft.Draft.nets.Given as goal

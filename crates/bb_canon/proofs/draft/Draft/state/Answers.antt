@@ -1,9 +1,9 @@
 use Rattle.std.proofs.Common.{◌≡◌, length, map, Err, ap, ◌∙◌}
 use Rattle.std.proofs.lemmas.Result.{err_from_is_err_and}
-use Rattle.bb_netlist.specs.Net.{Gate}
+use Rattle.bb_base.specs.Net.{Gate}
 use Rattle.bb_base.specs.Variables.{Bit}
-use Rattle.bb_net.specs.Named.{name_of_net, net_text}
-use Rattle.bb_net.specs.Building.{with_gate}
+use Rattle.bb_base.specs.Named.{name_of_net, net_text}
+use Rattle.bb_base.specs.Building.{with_gate}
 use Rattle.bb_canon.proofs.Drawing.{gate_want, gate_draws, below_more}
 use Rattle.bb_canon.proofs.draft.Draft.state.Goals as goal
 

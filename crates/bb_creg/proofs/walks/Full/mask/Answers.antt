@@ -1,6 +1,6 @@
 use Rattle.std.proofs.Common.{subst}
-use Rattle.bb_creg.specs.Register.{IsFullPeriod}
-use Rattle.bb_creg.specs.Walk.{Taps}
+use Rattle.bb_terms.specs.Register.{IsFullPeriod}
+use Rattle.bb_terms.specs.Walk.{Taps}
 use Rattle.bb_creg.proofs.Orbit.{full_from_walk}
 use Rattle.bb_creg.proofs.walks.Full.mask.Goals as goal
 

@@ -1,5 +1,5 @@
 use Rattle.std.proofs.Common.{◌↔◌, ◌++◌, ◌∷◌, [], sym, ap, subst, ◌∙◌, arith}
-use Rattle.bb_gf2.specs.Span.{IsInSpan, IsInCoset}
+use Rattle.bb_base.specs.Span.{IsInSpan, IsInCoset}
 use Rattle.bb_base.specs.Firsts.{IsLeast}
 use Rattle.bb_gf2.specs.Reduced.{IsReduced}
 use Rattle.bb_gf2.proofs.Cosets.{in_span_from_zero, zero_from_in_span, span_more, reduced_more, room_left}

@@ -1,8 +1,8 @@
 use Rattle.std.proofs.Common.{◌≡◌, ◌≤◌, ◌<◌, ℕ, length, IsSome, ◌↔◌, ap, sym, subst, ◌∙◌}
 use Rattle.bb_base.specs.Firsts.{IsFirst}
-use Rattle.bb_netlist.specs.Net.{Netlist, driven, times, IsNetlist}
-use Rattle.bb_netlist.specs.Drivers.{driven_by, netlist_of}
-use Rattle.bb_net.specs.Named.{Named, IsNamed}
+use Rattle.bb_base.specs.Net.{Netlist, driven, times, IsNetlist}
+use Rattle.bb_base.specs.Drivers.{driven_by, netlist_of}
+use Rattle.bb_base.specs.Named.{Named, IsNamed}
 use Rattle.bb_net.proofs.NamedLemmas.{named_fits}
 use Rattle.bb_net.proofs.builder.Builder.finish.Goals as goal
 

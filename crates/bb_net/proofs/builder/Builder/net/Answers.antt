@@ -1,7 +1,7 @@
 use Rattle.std.proofs.Common.{◌≡◌, ◌≤◌, ◌<◌, true, length, rules, arith, ap, sym, subst, Some}
 use Rattle.std.specs.List.{list_any}
 use Rattle.bb_base.specs.Variables.{bit_at, bit_eq}
-use Rattle.bb_net.specs.Building.{find_of, net_limit}
+use Rattle.bb_base.specs.Building.{find_of, net_limit}
 use Rattle.bb_base.proofs.BitLemmas.{found_bit}
 use Rattle.bb_net.proofs.ConsistentLemmas.{net_added, one_more, no_more}
 use Rattle.bb_net.proofs.builder.Builder.net.Goals as goal

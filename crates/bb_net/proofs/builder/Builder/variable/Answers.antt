@@ -4,8 +4,8 @@ use Rattle.std.specs.Str.{bytes_eq}
 use Rattle.indexmap.specs.IndexMap.{get}
 use Rattle.indexmap.proofs.CallerLemmas.{insert_entry-new}
 use Rattle.bb_base.specs.declared.variable.Variable.{Variable}
-use Rattle.bb_net.specs.Named.{Named}
-use Rattle.bb_net.specs.Building.{with_variable, net_limit, port_bits}
+use Rattle.bb_base.specs.Named.{Named}
+use Rattle.bb_base.specs.Building.{with_variable, net_limit, port_bits}
 use Rattle.bb_base.specs.Variables.{ports_of}
 use Rattle.bb_net.proofs.VariableLemmas.{variable_is, variable_added, ports_more}
 use Rattle.bb_net.proofs.builder.Builder.variable.Goals as goal

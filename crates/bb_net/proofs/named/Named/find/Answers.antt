@@ -1,5 +1,5 @@
 use Rattle.std.proofs.Common.{◌≡◌, Some, rules, sym}
-use Rattle.bb_net.specs.Building.{find_of}
+use Rattle.bb_base.specs.Building.{find_of}
 use Rattle.bb_base.proofs.BitLemmas.{found_bit, contains_at}
 use Rattle.bb_net.proofs.named.Named.find.Goals as goal
 

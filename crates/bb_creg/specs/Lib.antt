@@ -1,4 +1,0 @@
-pub mod Register
-pub mod Walk
-pub mod OnBits
-pub mod Signature

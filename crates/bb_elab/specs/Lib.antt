@@ -1,3 +1,0 @@
-pub mod Outcome
-pub mod LoopNames
-pub mod Denotes

@@ -1,8 +1,0 @@
-use bb_netlist::NetId;
-
-/// Where a walk back starts: at a net, or at the inputs of the gate of this number.
-#[derive(Clone, Copy, Debug, PartialEq, Eq)]
-pub enum Start {
-    Net(NetId),
-    Gate(u32),
-}

@@ -1,0 +1,2 @@
+pub mod HalfFaults
+pub mod ToggleFaults
