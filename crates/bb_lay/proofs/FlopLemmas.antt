@@ -1,5 +1,5 @@
 -- Flip-flops, and the wires of rows, one after another.
-use Rattle.std.proofs.Common.{arith, ◌≡◌, ℕ, ◌+◌, ◌-◌, ◌<◌, suc, List, [], ◌∷◌, ◌++◌, map, filter, take, drop, cond, Bool, true, false, Some, slice_get, sym, ap, ◌∙◌, append_assoc}
+use Rattle.std.proofs.Common.{arith, ◌≡◌, ℕ, ◌+◌, ◌-◌, ◌<◌, suc, List, [], ◌∷◌, ◌++◌, map, filter, take, drop, cond, Bool, true, Some, slice_get, sym, ap, ◌∙◌, append_assoc}
 use Rattle.bb_base.proofs.Lists.{map_join}
 use Rattle.bb_base.specs.Net.{Flop, renamed_flop}
 use Rattle.bb_base.specs.Named.{Named}
@@ -33,10 +33,6 @@ pub passed : {X : Type 0} (f : X → Wire) (test : Wire → Bool) (xs : List X) 
 passed f test xs i x old all at t h =
     append_assoc old (f x ∷ []) (filter test (map f (drop (i + 1) xs))) ∙ ap (λ b. old ++ cond b (f x ∷ filter test (map f (drop (i + 1) xs))) (filter test (map f (drop (i + 1) xs)))) (sym t)
     ∙ ap (λ ks. old ++ filter test (map f ks)) (sym (drop_pop xs i x at)) ∙ h
-
-pub left_out : {X : Type 0} (f : X → Wire) (test : Wire → Bool) (xs : List X) (i : ℕ) (x : X) (old all : List Wire) → slice_get xs i ≡ Some x → test (f x) ≡ false → old ++ filter test (map f (drop i xs)) ≡ all → old ++ filter test (map f (drop (i + 1) xs)) ≡ all
-left_out f test xs i x old all at t h =
-    ap (λ b. old ++ cond b (f x ∷ filter test (map f (drop (i + 1) xs))) (filter test (map f (drop (i + 1) xs)))) (sym t) ∙ ap (λ ks. old ++ filter test (map f ks)) (sym (drop_pop xs i x at)) ∙ h
 
 -- a flip-flop more in a builder
 pub flops_step : (fn b new : Named) (f : Wire → ℕ) (rows : List (Flop Wire)) (i q d : ℕ) (row : Flop Wire) → slice_get rows i ≡ Some row → b ≡ with_flops fn (map (renamed_flop f) (take i rows)) → q ≡ f row.q → d ≡ f row.d → new ≡ with_flop b q d

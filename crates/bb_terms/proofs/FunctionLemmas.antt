@@ -63,7 +63,7 @@ passes_driver test net (f ∷ gates) g all h out = by (f.out == net) refl all (e
 
 module _ (gives : Gate ℕ → List Bool → Bool) (gates : List (Gate ℕ)) (stop : ℕ → Bool) (start : Start ℕ) (bits v w : ℕ → Bool)
     (free_stops : (net : ℕ) → is_free gates net ≡ true → stop net ≡ true) (hv : Assigns gives gates stop start bits v) (hw : Assigns gives gates stop start bits w) where
-  -- two assignments agree at an no_stop net where they agree at its gate's inputs
+  -- two assignments agree at a net that is no stop where they agree at its gate's inputs
   by_gate : (net : ℕ) (g : Gate ℕ) → Contains gates g → g.out ≡ net → stop net ≡ false → IsReached gates stop (starts start) net → ((m : ℕ) → Contains g.ins m → IsReached gates stop (starts start) m → v m ≡ w m) → v net ≡ w net
   by_gate net g c out no_stop reached same =
       let lies : LiesBehind gates stop start g = (subst (IsReached gates stop (starts start)) (sym out) reached, subst (λ m. stop m ≡ false) (sym out) no_stop) in

@@ -1,4 +1,4 @@
--- A full walk is back control_after all its states.
+-- A full walk is back after all its states.
 use Rattle.std.proofs.Common.{◌≡◌, ℕ, ◌+◌, ◌^◌, ◌<◌, ◌≤◌, ◌==◌, zero, suc, true, false, sym, ap, ◌∙◌, arith}
 use Rattle.std.proofs.lemmas.Bool.Decides.{nat_tests}
 use Rattle.bb_terms.specs.Register.{IsMask, IsFullPeriod}

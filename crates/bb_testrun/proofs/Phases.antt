@@ -44,7 +44,7 @@ across mask xs late ring c s e =
       ring_is = ap (λ b. if b then suc c.ring else c.ring) (ap (λ b. c.late && b) t ∙ and_yes c.late) ∙ (λ j. if s.late_is j then suc (s.ring_is j) else s.ring_is j);
     }
 
--- control_after, from any state
+-- the controller after so many cycles, from any state
 abbrev pub from : ℕ → Control → ℕ → Control
 from mask c zero = c
 from mask c (suc n) = control_step mask (from mask c n)

@@ -1,4 +1,4 @@
--- a signature grows by one control_step a cycle
+-- a signature grows by one step a cycle
 use Rattle.std.proofs.Common.{◌≡◌, zero, suc, List, [], ◌∷◌, ◌++◌, refl, sym, ap, ◌∙◌}
 use Rattle.std.specs.Prelude.{fold}
 use Rattle.bb_terms.specs.OnBits.{zeros}

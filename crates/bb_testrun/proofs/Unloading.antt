@@ -60,7 +60,7 @@ chain_shifts v w r i before (g ∷ gs) h =
     bits_join w i g.cells ds ∙ (λ j. h.0 j ++ (rest ∙ ap (λ b. shifted b (map v (qs_from (i + length g.cells) ds))) (last_bit v before (qs_from i g.cells))) j)
     ∙ sym (shifted_join (bit_or_zero v before) (map v (qs_from i g.cells)) (map v (qs_from (i + length g.cells) ds))) ∙ ap (shifted (bit_or_zero v before)) (sym (bits_join v i g.cells ds))
 
--- the registers' bits one control_after another
+-- the registers' bits one after another
 chain_of : (a : Netlist ℕ) (p : PlanValue) (size : ℕ) (v : ℕ → Wire → Bool) (s : ℕ) (x : Wire → Bool) (r i : ℕ) (before : Option Wire) (gs : List RegisterValue)
     → EachRegister (λ r i before g. map x (qs_from i g.cells) ≡ held_by a p size v s size r g) r i before gs → map x (qs_from i (flat_map (λ g. g.cells) gs)) ≡ held_from a p size v s r gs
 chain_of a p size v s x r i before [] h = refl

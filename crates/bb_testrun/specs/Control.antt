@@ -33,7 +33,7 @@ pub record ControlHolds (p : PlanValue) (v : Wire → Bool) (c : Control) : Type
   pub late : v Phase ≡ c.late
   pub ring : (s : ℕ) → s ≤ length p.sessions → v (Ring s) ≡ (s == min c.ring (length p.sessions))
 
--- the walk first returns to 0 control_after size steps
+-- the walk first returns to 0 after size steps
 pub record ReturnsAfter (k mask size : ℕ) : Type 0 where
   pub some : 0 < size
   pub back : bits_after k mask size ≡ zeros k

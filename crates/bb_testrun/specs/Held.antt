@@ -14,11 +14,11 @@ use Rattle.bb_base.specs.Parity.{code_of_bits}
 use Rattle.bb_terms.specs.Signature.{signature_step}
 use Rattle.bb_written.specs.Modes.{z_bit, EachRegister}
 
--- one control_step of a signature register, its lines first
+-- one step of a signature register, its lines first
 abbrev pub signature_with : ℕ → List Bool → List Bool → List Bool
 signature_with mask lines cells = signature_step mask cells lines
 
--- what it holds control_after so many cycles, where these are its lines in each
+-- what it holds after so many cycles, where these are its lines in each
 abbrev pub signature_at : ℕ → ℕ → (ℕ → List Bool) → ℕ → List Bool
 signature_at l mask lines zero = zeros l
 signature_at l mask lines (suc t) = signature_with mask (lines t) (signature_at l mask lines t)
@@ -40,7 +40,7 @@ held_by a p size v s t r g =
     if compacts p.sessions r s then signature_at (length g.cells) g.mask (line_bits a p size v s g.cells) t
     else map (λ c. is_source c.kind && code_of_bits c.column (bits_after p.degree p.mask t)) g.cells
 
--- these bits control_after j shifts
+-- these bits after j shifts
 abbrev pub shifts : ℕ → List Bool → List Bool
 shifts zero bs = bs
 shifts (suc j) bs = shifted false (shifts j bs)

@@ -47,7 +47,7 @@ is_inner w = true
 abbrev pub inner_wires : Netlist ℕ → PlanValue → List Wire
 inner_wires a p = filter is_inner (map (λ g. g.out) (test_gates a p)) ++ filter is_inner (map (λ f. f.q) (flops p))
 
--- the site of a scalar_entry variable
+-- the site of a variable of one bit
 abbrev pub scalar_site : List ℕ → Site
 scalar_site name = record { name = name; place = 0 }
 
