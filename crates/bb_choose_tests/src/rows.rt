@@ -58,12 +58,12 @@ pub(crate) fn fault_of(alloc: Global, text: &str, settings: Settings) -> Option<
     }
 }
 
-/// How large a plan is: its cells, registers, sessions, degree and cycles.
-pub(crate) fn size_of(alloc: Global, text: &str, settings: Settings) -> Option<[u64; 5]>
-    requires { AreInRange settings }
+/// How large what is chosen for a netlist is: its cells, registers, sessions, degree and cycles.
+fn size_in(alloc: Global, named: &Named, order: &Order, settings: Settings) -> Option<[u64; 5]>
+    requires order { IsOrder named.now.netlist.gates order.now }
+    requires settings { AreInRange settings }
 {
-    let (named, order) = read(alloc, text)?;
-    let chosen = choice(alloc, &named, &order, settings)?.ok()?;
+    let chosen = choice(alloc, named, order, settings)?.ok()?;
     let plan = &chosen.plan;
     Some([
         plan.cells(),
@@ -72,6 +72,14 @@ pub(crate) fn size_of(alloc: Global, text: &str, settings: Settings) -> Option<[
         plan.degree as u64,
         chosen.cycles,
     ])
+}
+
+/// The same for a text's netlist.
+pub(crate) fn size_of(alloc: Global, text: &str, settings: Settings) -> Option<[u64; 5]>
+    requires { AreInRange settings }
+{
+    let (named, order) = read(alloc, text)?;
+    size_in(alloc, &named, &order, settings)
 }
 
 /// A cell's kind, the number of its net's variable, and its column.
@@ -110,7 +118,28 @@ fn has_sessions(plan: &Plan, rows: &[&[u32]]) -> bool {
             .all(|(session, row)| session.compact.as_slice() == *row)
 }
 
-/// What is chosen for a text has this degree with its mask, these registers and these sessions.
+/// A plan has this degree with its mask, these registers and these sessions.
+fn is_plan(
+    named: &Named,
+    plan: &Plan,
+    code: (u32, u32),
+    registers: &[(u32, &[Row])],
+    sessions: &[&[u32]],
+) -> bool {
+    (plan.degree, plan.mask) == code
+        && has_registers(named, plan, registers)
+        && has_sessions(plan, sessions)
+}
+
+/// The plan that is chosen for a netlist.
+fn plan_in(alloc: Global, named: &Named, order: &Order, settings: Settings) -> Option<Plan>
+    requires order { IsOrder named.now.netlist.gates order.now }
+    requires settings { AreInRange settings }
+{
+    Some(choice(alloc, named, order, settings)?.ok()?.plan)
+}
+
+/// What is chosen for a text has the width of the settings, this degree with its mask, these registers and these sessions.
 pub(crate) fn is_chosen(
     alloc: Global,
     text: &str,
@@ -122,10 +151,6 @@ pub(crate) fn is_chosen(
     requires { AreInRange settings }
 {
     let (named, order) = read(alloc, text)?;
-    let chosen = choice(alloc, &named, &order, settings)?.ok()?;
-    let plan = &chosen.plan;
-    let same = (plan.width, plan.degree, plan.mask) == (settings.width, code.0, code.1)
-        && has_registers(&named, plan, registers)
-        && has_sessions(plan, sessions);
-    Some(same)
+    let plan = plan_in(alloc, &named, &order, settings)?;
+    Some(plan.width == settings.width && is_plan(&named, &plan, code, registers, sessions))
 }
