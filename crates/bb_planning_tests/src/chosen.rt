@@ -190,21 +190,36 @@ fn scheduled(alloc: Global, draft: &Draft, most: u32) -> Option<(Grouped, Vec<Se
     Some((grouped, sessions))
 }
 
-/// The valid plan that is chosen for a text.
+/// The valid plan that is chosen for a netlist.
+fn chosen_in(
+    rt: &(impl Abort + AllocGlobal),
+    netlist: &Netlist,
+    order: &Order,
+    width: u32,
+    most: u32,
+) -> Option<Valid>
+    requires order { IsOrder netlist.now.gates order.now }
+    requires width { width ≤ 12 }
+    requires least { 1 ≤ most }
+    requires most { most ≤ 16 }
+{
+    if netlist.nets() > 2_097_152 {
+        return None;
+    }
+    let draft = drafted(rt.alloc(), netlist, order, width)?;
+    let (grouped, sessions) = scheduled(rt.alloc(), &draft, most)?;
+    let plan = coded(rt, width, &grouped, sessions)?;
+    validate(rt.alloc(), netlist, order, plan).ok()
+}
+
+/// The same for a text's netlist.
 fn chosen(rt: &(impl Abort + AllocGlobal), text: &str, width: u32, most: u32) -> Option<Valid>
     requires width { width ≤ 12 }
     requires least { 1 ≤ most }
     requires most { most ≤ 16 }
 {
     let (named, order) = read(rt.alloc(), text)?;
-    let netlist = named.netlist();
-    if netlist.nets() > 2_097_152 {
-        return None;
-    }
-    let draft = drafted(rt.alloc(), netlist, &order, width)?;
-    let (grouped, sessions) = scheduled(rt.alloc(), &draft, most)?;
-    let plan = coded(rt, width, &grouped, sessions)?;
-    validate(rt.alloc(), netlist, &order, plan).ok()
+    chosen_in(rt, named.netlist(), &order, width, most)
 }
 
 /// A cell's kind, net and column.

@@ -3,10 +3,12 @@
 
 ghost use Rattle.std.specs.Prelude.{IfOk, ◌≡◌, length};
 ghost use Rattle.bb_base.specs.Net.{driven};
+ghost use Rattle.bb_terms.specs.Support.{StartExists};
 
 use crate::netlists::{TOGGLE, read};
 use bb_base::{Driver, NetId, Netlist};
 use bb_cone::{CutFault, cuts};
+use bb_netlist::Order;
 use bb_segment::{Walk, Wide, support};
 use bb_terms::Start;
 use std::alloc::{AllocError, Global};
@@ -86,29 +88,35 @@ fn stops_of(alloc: Global, netlist: &Netlist, cuts: &[u32]) -> Result<Vec<bool>,
     Ok(stops)
 }
 
-/// The leaves of a net, or their count where they are many.
-fn leaves_at(alloc: Global, text: &str, cuts: &[u32], net: u32) -> Option<Result<Vec<u32>, u32>> {
-    let (named, order) = read(alloc, text)?;
-    let netlist = named.netlist();
-    let Ok(stops) = stops_of(alloc, netlist, cuts) else {
-        return None;
-    };
-    let Ok(mut walk) = Walk::new(alloc, netlist) else {
-        return None;
-    };
-    if net >= netlist.nets() {
-        return None;
-    }
-    match support(netlist, &order, &stops, Start::Net(NetId(net)), &mut walk) {
-        Ok(leaves) => match numbers(alloc, &leaves) {
-            Ok(numbers) => Some(Ok(numbers)),
-            Err(_) => None,
-        },
+/// The leaves of a start, or their count where they are many; none where memory lacks.
+fn leaves(
+    alloc: Global,
+    netlist: &Netlist,
+    order: &Order,
+    cuts: &[u32],
+    start: Start,
+) -> Option<Result<Vec<u32>, u32>>
+    requires { StartExists netlist.now start }
+{
+    let stops = stops_of(alloc, netlist, cuts).ok()?;
+    let mut walk = Walk::new(alloc, netlist).ok()?;
+    match support(netlist, order, &stops, start, &mut walk) {
+        Ok(leaves) => Some(Ok(numbers(alloc, &leaves).ok()?)),
         Err(Wide { count }) => Some(Err(count)),
     }
 }
 
-/// The leaves behind a gate, or their count where they are many.
+/// The same of a net.
+fn leaves_at(alloc: Global, text: &str, cuts: &[u32], net: u32) -> Option<Result<Vec<u32>, u32>> {
+    let (named, order) = read(alloc, text)?;
+    let netlist = named.netlist();
+    if net >= netlist.nets() {
+        return None;
+    }
+    leaves(alloc, netlist, &order, cuts, Start::Net(NetId(net)))
+}
+
+/// The same behind a gate.
 fn leaves_behind(
     alloc: Global,
     text: &str,
@@ -117,22 +125,10 @@ fn leaves_behind(
 ) -> Option<Result<Vec<u32>, u32>> {
     let (named, order) = read(alloc, text)?;
     let netlist = named.netlist();
-    let Ok(stops) = stops_of(alloc, netlist, cuts) else {
-        return None;
-    };
-    let Ok(mut walk) = Walk::new(alloc, netlist) else {
-        return None;
-    };
     if gate as usize >= netlist.gates().len() {
         return None;
     }
-    match support(netlist, &order, &stops, Start::Gate(gate), &mut walk) {
-        Ok(leaves) => match numbers(alloc, &leaves) {
-            Ok(numbers) => Some(Ok(numbers)),
-            Err(_) => None,
-        },
-        Err(Wide { count }) => Some(Err(count)),
-    }
+    leaves(alloc, netlist, &order, cuts, Start::Gate(gate))
 }
 
 /// These are the leaves.

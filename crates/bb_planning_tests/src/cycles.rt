@@ -1,7 +1,11 @@
 // Rows of cycles, by hand. Nets are numbered in the order in which a text declares them, the clock left out.
 
+ghost use Rattle.bb_base.specs.Order.{IsOrder};
+
 use crate::netlists::{HALF, SWAP, TOGGLE, read};
+use bb_base::Netlist;
 use bb_eqn::{cycle, settle};
+use bb_netlist::Order;
 use std::alloc::Global;
 
 /// The gates stand against their order: `y` reads `m`, and `m` reads `t`.
@@ -9,31 +13,51 @@ const AGAINST: &str =
     "module row (a, b, c, y);\ninput a;\ninput b;\ninput c;\noutput y;\nwire m;\nwire t;\nbuf (y, m);\nnor (m, c, t);\nnand (t, a, b);\nendmodule\n";
 
 /// The bits of all nets, and none where lengths differ or memory lacks.
-fn settled(alloc: Global, text: &str, inputs: &[bool], state: &[bool]) -> Option<Vec<bool>> {
-    let (named, order) = read(alloc, text)?;
-    let netlist = named.netlist();
+fn settled_in(
+    alloc: Global,
+    netlist: &Netlist,
+    order: &Order,
+    inputs: &[bool],
+    state: &[bool],
+) -> Option<Vec<bool>>
+    requires { IsOrder netlist.now.gates order.now }
+{
     if inputs.len() != netlist.inputs().len() || state.len() != netlist.flops().len() {
         return None;
     }
-    let Ok(mut values) = vec![in alloc; true; netlist.nets() as usize] else {
-        return None;
-    };
-    settle(netlist, &order, inputs, state, &mut values);
+    let mut values = vec![in alloc; true; netlist.nets() as usize].ok()?;
+    settle(netlist, order, inputs, state, &mut values);
     Some(values)
 }
 
-/// The same, and the state is left as the cycle leaves it.
-fn cycled(alloc: Global, text: &str, inputs: &[bool], state: &mut [bool]) -> Option<Vec<bool>> {
+/// The same of a text's netlist.
+fn settled(alloc: Global, text: &str, inputs: &[bool], state: &[bool]) -> Option<Vec<bool>> {
     let (named, order) = read(alloc, text)?;
-    let netlist = named.netlist();
+    settled_in(alloc, named.netlist(), &order, inputs, state)
+}
+
+/// The bits of all nets, and none where lengths differ or memory lacks. The state is left as the cycle leaves it.
+fn cycled_in(
+    alloc: Global,
+    netlist: &Netlist,
+    order: &Order,
+    inputs: &[bool],
+    state: &mut [bool],
+) -> Option<Vec<bool>>
+    requires { IsOrder netlist.now.gates order.now }
+{
     if inputs.len() != netlist.inputs().len() || state.len() != netlist.flops().len() {
         return None;
     }
-    let Ok(mut values) = vec![in alloc; true; netlist.nets() as usize] else {
-        return None;
-    };
-    cycle(netlist, &order, inputs, state, &mut values);
+    let mut values = vec![in alloc; true; netlist.nets() as usize].ok()?;
+    cycle(netlist, order, inputs, state, &mut values);
     Some(values)
+}
+
+/// The same of a text's netlist.
+fn cycled(alloc: Global, text: &str, inputs: &[bool], state: &mut [bool]) -> Option<Vec<bool>> {
+    let (named, order) = read(alloc, text)?;
+    cycled_in(alloc, named.netlist(), &order, inputs, state)
 }
 
 /// These are the bits.

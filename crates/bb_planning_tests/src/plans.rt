@@ -1,7 +1,10 @@
 // Plans of the half adder and of small netlists: nets are numbered in the order in which the text declares them.
 
+ghost use Rattle.bb_base.specs.Order.{IsOrder};
+
 use crate::netlists::{HALF, TOGGLE, read};
-use bb_base::NetId;
+use bb_base::{NetId, Netlist};
+use bb_netlist::Order;
 use bb_plan::validate;
 use bb_terms::{Cell, Kind, Plan, PlanFault, Register, Segment, Session};
 use std::alloc::{AllocError, Global};
@@ -59,17 +62,26 @@ fn numbers(alloc: Global, segments: &[Segment]) -> Result<Vec<u32>, AllocError> 
     Ok(numbers)
 }
 
-/// The numbers of a valid plan's segments, or the rule that fails and its place.
-fn judged(alloc: Global, text: &str, plan: Plan) -> Option<Result<Vec<u32>, (u8, u32)>> {
-    let (named, order) = read(alloc, text)?;
-    match validate(alloc, named.netlist(), &order, plan) {
-        Ok(valid) => match numbers(alloc, valid.segments()) {
-            Ok(numbers) => Some(Ok(numbers)),
-            Err(_) => None,
-        },
+/// The numbers of the segments of a plan that is valid for a netlist, or the rule that fails and its place.
+fn judged_in(
+    alloc: Global,
+    netlist: &Netlist,
+    order: &Order,
+    plan: Plan,
+) -> Option<Result<Vec<u32>, (u8, u32)>>
+    requires { IsOrder netlist.now.gates order.now }
+{
+    match validate(alloc, netlist, order, plan) {
+        Ok(valid) => Some(Ok(numbers(alloc, valid.segments()).ok()?)),
         Err(PlanFault::Rule { number, place }) => Some(Err((number, place))),
         Err(PlanFault::NoMemory) => None,
     }
+}
+
+/// The same of a text's netlist.
+fn judged(alloc: Global, text: &str, plan: Plan) -> Option<Result<Vec<u32>, (u8, u32)>> {
+    let (named, order) = read(alloc, text)?;
+    judged_in(alloc, named.netlist(), &order, plan)
 }
 
 /// What is judged of the half adder with this width, this mask, the second source's column, and the registers of the session.

@@ -1,7 +1,11 @@
 // Signatures of plans that are given by hand: nets are numbered in the order in which the text declares them.
 
+ghost use Rattle.bb_base.specs.Order.{IsOrder};
+
 use crate::netlists::{HALF, TOGGLE, read};
 use crate::plans::{Row, register};
+use bb_base::Netlist;
+use bb_netlist::Order;
 use bb_plan::validate;
 use bb_sign::signatures;
 use bb_terms::{Kind, Plan, Session};
@@ -57,19 +61,19 @@ fn joined(alloc: Global, lists: &[Vec<u32>]) -> Result<Vec<u32>, AllocError> {
     Ok(numbers)
 }
 
-/// The signatures of all sessions of a plan that is valid.
+/// The signatures of all sessions of a plan that is valid for a netlist.
+fn signed_in(alloc: Global, netlist: &Netlist, order: &Order, plan: Plan) -> Option<Vec<u32>>
+    requires { IsOrder netlist.now.gates order.now }
+{
+    let valid = validate(alloc, netlist, order, plan).ok()?;
+    let lists = signatures(alloc, netlist, order, &valid).ok()?;
+    joined(alloc, &lists).ok()
+}
+
+/// The same of a text's netlist.
 fn signed(alloc: Global, text: &str, plan: Result<Plan, AllocError>) -> Option<Vec<u32>> {
     let (named, order) = read(alloc, text)?;
-    let Ok(plan) = plan else {
-        return None;
-    };
-    let Ok(valid) = validate(alloc, named.netlist(), &order, plan) else {
-        return None;
-    };
-    match signatures(alloc, named.netlist(), &order, &valid) {
-        Ok(lists) => joined(alloc, &lists).ok(),
-        Err(_) => None,
-    }
+    signed_in(alloc, named.netlist(), &order, plan.ok()?)
 }
 
 /// Whether a plan of degree 1 is valid and has these signatures.

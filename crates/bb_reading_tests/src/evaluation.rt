@@ -3,6 +3,7 @@
 ghost use Rattle.std.specs.Prelude.{IfOk, IfSome};
 ghost use Rattle.bb_base.specs.Order.{IsOrder};
 
+use bb_base::{NetId, Netlist};
 use bb_edge::MemStore;
 use bb_eqn::settle;
 use bb_named::read_named;
@@ -33,27 +34,51 @@ fn bits_of(alloc: Global, digits: &str) -> Result<Vec<bool>, AllocError> {
     Ok(bits)
 }
 
-/// The bits of the outputs where the inputs have these; a text that denotes no netlist of gates alone, or other inputs, has none.
-fn outputs(alloc: Global, text: &str, own: bool, digits: &str) -> Result<String, AllocError> {
-    let mut answer = String::new(alloc);
-    let Some((named, order)) = read(alloc, text, own)? else {
-        return Ok(answer);
-    };
-    let netlist = named.netlist();
+/// The bits of all nets where the inputs have these digits; a netlist with flip-flops or with other inputs has none.
+fn settled(
+    alloc: Global,
+    netlist: &Netlist,
+    order: &Order,
+    digits: &str,
+) -> Result<Option<Vec<bool>>, AllocError>
+    requires { IsOrder netlist.now.gates order.now }
+{
     let inputs = bits_of(alloc, digits)?;
     if inputs.len() != netlist.inputs().len() || netlist.flops().len() != 0 {
-        return Ok(answer);
+        return Ok(None);
     }
     let mut values = vec![in alloc; true; netlist.nets() as usize]?;
-    settle(netlist, &order, &inputs, &[], &mut values);
-    for net in netlist.outputs() {
-        match values.get(net.0 as usize) {
-            Some(true) => answer.push('1')?,
-            Some(false) => answer.push('0')?,
-            None => answer.push('-')?,
-        }
+    settle(netlist, order, &inputs, &[], &mut values);
+    Ok(Some(values))
+}
+
+/// The digit of a net's bit, and `-` where it has none.
+fn digit_of(values: &[bool], net: NetId) -> char {
+    match values.get(net.0 as usize) {
+        Some(true) => '1',
+        Some(false) => '0',
+        None => '-',
+    }
+}
+
+/// The digits of these nets.
+fn digits_of(alloc: Global, values: &[bool], nets: &[NetId]) -> Result<String, AllocError> {
+    let mut answer = String::new(alloc);
+    for net in nets {
+        answer.push(digit_of(values, *net))?;
     }
     Ok(answer)
+}
+
+/// The bits of the outputs where the inputs have these; a text that denotes no netlist of gates alone, or other inputs, has none.
+fn outputs(alloc: Global, text: &str, own: bool, digits: &str) -> Result<String, AllocError> {
+    let Some((named, order)) = read(alloc, text, own)? else {
+        return Ok(String::new(alloc));
+    };
+    match settled(alloc, named.netlist(), &order, digits)? {
+        Some(values) => digits_of(alloc, &values, named.netlist().outputs()),
+        None => Ok(String::new(alloc)),
+    }
 }
 
 /// The output's bits of a module of the inputs a and b, where these are 00, 01, 10 and 11.
