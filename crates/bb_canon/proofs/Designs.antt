@@ -10,7 +10,7 @@ use Rattle.bb_spell.specs.Limits.{IsNumbered}
 use Rattle.bb_spell.proofs.Texts.{design_text}
 use Rattle.bb_canon.proofs.BitAgain.{same_bit, Apart}
 use Rattle.bb_canon.proofs.OneDesign.{same_parts}
-use Rattle.bb_lines.specs.Places.{bad_line}
+use Rattle.bb_spell.specs.Places.{bad_line}
 use Rattle.bb_canon.specs.declared.draft.CanonFault.TheVariants.{Line, Unfit, NoMemory}
 use Rattle.bb_canon.specs.Faults.{NamesNoLine}
 use Rattle.bb_canon.specs.declared.draft.CanonFault.{CanonFault}

@@ -13,11 +13,11 @@ use Rattle.bb_base.specs.Named.{Design}
 use Rattle.bb_spell.specs.Spelling.{module_line, declaration, statement_by, gate_line, flop_line}
 use Rattle.bb_spell.specs.Canonical.{port_names, flop_lines, canonical_lines, canonical_text}
 use Rattle.bb_spell.specs.Front.{index_limit}
-use Rattle.bb_lines.specs.Lines.{head_name, declaration_of, statement_of, FlopLine, flop_of}
+use Rattle.bb_spell.specs.Lines.{head_name, declaration_of, statement_of, FlopLine, flop_of}
 use Rattle.bb_spell.specs.Writable.{IsBitText, IsGateText, IsFlopText, HasClock, IsText}
-use Rattle.bb_lines.proofs.LineAgain.{module_again, declaration_again, statement_again, flop_again}
+use Rattle.bb_spell.proofs.LineAgain.{module_again, declaration_again, statement_again, flop_again}
 use Rattle.bb_spell.proofs.Clean.{lines_again, text_clean}
-use Rattle.bb_lines.proofs.OneKind.{flop_undeclared, others_undeclared, states_nothing_declared, flop_unstated, others_unstated, declared_unstated}
+use Rattle.bb_spell.proofs.OneKind.{flop_undeclared, others_undeclared, states_nothing_declared, flop_unstated, others_unstated, declared_unstated}
 
 declared_no_flop : (name : List ℕ) (range : Option (ℕ × ℕ)) (role : Role) → flop_of (declaration (name, record { range = range; role = role })) ≡ None
 unfolding flop_of

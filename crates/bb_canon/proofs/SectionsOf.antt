@@ -12,7 +12,7 @@ use Rattle.bb_spell.specs.Spelling.{module_line, declaration, statement_by, gate
 use Rattle.bb_spell.specs.Canonical.{port_names, flop_lines, with_feed, canonical_text}
 use Rattle.bb_spell.specs.Front.{index_limit}
 use Rattle.bb_spell.specs.TextLines.{first_line}
-use Rattle.bb_lines.specs.Lines.{word_role}
+use Rattle.bb_spell.specs.Lines.{word_role}
 use Rattle.bb_canon.specs.Sections.{declares, clocks, states_gate, IsLineOf, NoneFirst, IsSection}
 use Rattle.bb_spell.specs.Writable.{IsBitText, IsGateText, IsFlopText, HasClock, IsText}
 use Rattle.bb_spell.proofs.Clean.{module_clean, declaration_clean, statement_clean, flop_clean}

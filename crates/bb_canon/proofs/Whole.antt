@@ -13,11 +13,11 @@ use Rattle.bb_spell.specs.Canonical.{port_names, flop_lines, with_feed, canonica
 use Rattle.bb_spell.specs.Front.{index_limit}
 use Rattle.bb_spell.specs.Limits.{IsNumbered}
 use Rattle.bb_spell.specs.TextLines.{first_line, is_line_byte}
-use Rattle.bb_lines.specs.Lines.{head_name, flop_of}
+use Rattle.bb_spell.specs.Lines.{head_name, flop_of}
 use Rattle.bb_canon.specs.Sections.{declares, clocks, states_gate}
 use Rattle.bb_canon.specs.Along.{SayAll, Along, SaysVariable, SaysGate, SaysFlop, ClockIn, ClockLeft, clock_text}
 use Rattle.bb_spell.specs.Writable.{IsBitText, IsGateText, IsFlopText, HasClock, IsText}
-use Rattle.bb_lines.proofs.LineAgain.{module_again, declaration_again, statement_again, flop_again}
+use Rattle.bb_spell.proofs.LineAgain.{module_again, declaration_again, statement_again, flop_again}
 use Rattle.bb_spell.proofs.Clean.{module_clean, declaration_clean, statement_clean, flop_clean}
 use Rattle.bb_spell.proofs.Texts.{design_text}
 use Rattle.bb_spell.proofs.Pieces.{line_again, first_same, nothing_first}

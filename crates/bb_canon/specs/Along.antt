@@ -8,7 +8,7 @@ use Rattle.bb_base.specs.Named.{Named, net_text}
 use Rattle.bb_spell.specs.Canonical.{with_feed}
 use Rattle.bb_spell.specs.TextLines.{is_line_byte}
 use Rattle.bb_canon.specs.Sections.{declares, states_gate, clocks, NoneFirst}
-use Rattle.bb_lines.specs.Lines.{declaration_of, statement_of, flop_of, FlopLine}
+use Rattle.bb_spell.specs.Lines.{declaration_of, statement_of, flop_of, FlopLine}
 use Rattle.bb_canon.specs.Toward.{IsDrawn, IsDeclared}
 
 -- the line says this item: it has no line feed within, begins as one of its kind, and is read so

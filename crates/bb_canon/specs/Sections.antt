@@ -4,7 +4,7 @@ use Rattle.std.specs.List.{list_all, flat_map, AllByRecursion}
 use Rattle.std.specs.Str.{bytes_eq}
 use Rattle.bb_spell.specs.Canonical.{with_feed}
 use Rattle.bb_spell.specs.Front.{begins_with, word_of}
-use Rattle.bb_lines.specs.Lines.{word_role}
+use Rattle.bb_spell.specs.Lines.{word_role}
 use Rattle.bb_spell.specs.TextLines.{is_line_byte}
 
 -- the line begins as one that declares a variable

@@ -11,9 +11,8 @@ ghost use Rattle.bb_canon.specs.Toward.{IsDrawn, IsGateOf, IsFlopOf, IsDeclared}
 ghost use Rattle.bb_canon.specs.Drafting.{index_place, indexed_place, named_bit, canon_fault, may_come};
 
 use bb_base::{BitName, Name, NetFault, NetId, Role, Variable, is_port_role};
-use bb_lines::{Instance, Statement};
 use bb_net::{Builder, Named};
-use bb_spell::BitText;
+use bb_spell::{BitText, Instance, Statement};
 use std::alloc::{AllocError, AllocFailed, Global};
 use std::marker::Model;
 

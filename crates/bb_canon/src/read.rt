@@ -11,17 +11,17 @@ ghost use Rattle.bb_base.specs.Variables.{Entry};
 ghost use Rattle.bb_spell.specs.Front.{begins_with};
 ghost use Rattle.bb_spell.specs.TextLines.{first_line};
 ghost use Rattle.bb_canon.specs.Sections.{declares, clocks, states_gate, IsSection};
-ghost use Rattle.bb_lines.specs.Lines.{head_name};
-ghost use Rattle.bb_lines.specs.Places.{bad_line};
-ghost use Rattle.bb_lines.specs.Forms.{IsBadLine, IsAllRight};
+ghost use Rattle.bb_spell.specs.Lines.{head_name};
+ghost use Rattle.bb_spell.specs.Places.{bad_line};
+ghost use Rattle.bb_spell.specs.Forms.{IsBadLine, IsAllRight};
 
 use crate::draft::{CanonFault, Draft};
 use bb_base::Name;
-use bb_lines::{
-    Instance, bad_line, read_declaration, read_flop, read_module, read_statement, word_role,
-};
 use bb_net::Named;
-use bb_spell::{BitText, LineFault, append_text, begins_with, next_line, word_at};
+use bb_spell::{
+    BitText, Instance, LineFault, append_text, bad_line, begins_with, next_line, read_declaration,
+    read_flop, read_module, read_statement, word_at, word_role,
+};
 use std::alloc::Global;
 
 /// A line's fault, where it isn't asked yet which line.

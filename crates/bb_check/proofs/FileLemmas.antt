@@ -15,13 +15,13 @@ use Rattle.bb_audit.specs.Audited.{Audited}
 use Rattle.bb_audit.specs.Signed.{values_of}
 use Rattle.bb_audit.specs.Passing.{AuditPasses}
 use Rattle.bb_audit.specs.Faults.{IsAuditFault}
-use Rattle.bb_say.specs.declared.refusal.TextRefusal.{TextRefusal}
-use Rattle.bb_say.specs.declared.refusal.FormRefusal.{FormRefusal}
-use Rattle.bb_say.specs.declared.refusal.Refusal.{Refusal}
-use Rattle.bb_say.specs.declared.refusal.Refusal.TheVariants.{Input, Plan, Netlist, Schedule, Signatures, Certificate, Check}
-use Rattle.bb_say.specs.declared.stop.Stop.{Stop}
-use Rattle.bb_say.specs.declared.stop.Stop.TheVariants.{Refused}
-use Rattle.bb_named.specs.Texts.{file_limit, output_limit, IsTextRefused}
+use Rattle.bb_read.specs.declared.refusal.TextRefusal.{TextRefusal}
+use Rattle.bb_read.specs.declared.refusal.FormRefusal.{FormRefusal}
+use Rattle.bb_read.specs.declared.refusal.Refusal.{Refusal}
+use Rattle.bb_read.specs.declared.refusal.Refusal.TheVariants.{Input, Plan, Netlist, Schedule, Signatures, Certificate, Check}
+use Rattle.bb_read.specs.declared.stop.Stop.{Stop}
+use Rattle.bb_read.specs.declared.stop.Stop.TheVariants.{Refused}
+use Rattle.bb_read.specs.Texts.{file_limit, output_limit, IsTextRefused}
 use Rattle.bb_check.specs.Passed.{Texts, IsInputOf, IsNetlistOf, IsScheduleOf, IsSignedBy, IsCertificateOf}
 use Rattle.bb_check.specs.Refused.{IsFormRefused}
 use Rattle.bb_check.specs.Told.{in_order, read_for, HoldTexts, Tells, AreFilesOf, FilesPass, AreFilesRefused}

@@ -14,12 +14,12 @@ use Rattle.bb_forms.specs.CertificateText.{CertificateValue, IsFormedCertificate
 use Rattle.bb_audit.specs.Audited.{Audited, audited}
 use Rattle.bb_audit.specs.Passing.{AuditPasses}
 use Rattle.bb_audit.specs.Faults.{IsAuditFault}
-use Rattle.bb_say.specs.declared.refusal.TextRefusal.{TextRefusal}
-use Rattle.bb_say.specs.declared.refusal.FormRefusal.{FormRefusal}
-use Rattle.bb_say.specs.declared.refusal.FormRefusal.TheVariants.{TooLong, Line}
-use Rattle.bb_say.specs.declared.refusal.Refusal.{Refusal}
-use Rattle.bb_say.specs.declared.refusal.Refusal.TheVariants.{Input, Plan, Netlist, Schedule, Signatures, Certificate, Check}
-use Rattle.bb_named.specs.Texts.{file_limit, output_limit, IsTextRefused, ComesTo}
+use Rattle.bb_read.specs.declared.refusal.TextRefusal.{TextRefusal}
+use Rattle.bb_read.specs.declared.refusal.FormRefusal.{FormRefusal}
+use Rattle.bb_read.specs.declared.refusal.FormRefusal.TheVariants.{TooLong, Line}
+use Rattle.bb_read.specs.declared.refusal.Refusal.{Refusal}
+use Rattle.bb_read.specs.declared.refusal.Refusal.TheVariants.{Input, Plan, Netlist, Schedule, Signatures, Certificate, Check}
+use Rattle.bb_read.specs.Texts.{file_limit, output_limit, IsTextRefused, ComesTo}
 use Rattle.bb_check.specs.Passed.{Texts, IsInputOf, IsNetlistOf, IsScheduleOf, IsSignedBy, IsCertificateOf, AreTextsOf, Pass}
 use Rattle.bb_check.specs.Refused.{IsFormRefused, IsOfForm, AreRefused}
 use Rattle.bb_check.specs.Told.{read_for, HoldTexts, AreFilesOf}

@@ -10,7 +10,7 @@ use Rattle.bb_selftest.specs.SelfTest.{IsSelfTest}
 use Rattle.bb_audit.specs.Audited.{Audited}
 use Rattle.bb_audit.specs.Signed.{values_of}
 use Rattle.bb_audit.specs.Passing.{AuditPasses}
-use Rattle.bb_named.specs.Texts.{file_limit, output_limit, ComesTo}
+use Rattle.bb_read.specs.Texts.{file_limit, output_limit, ComesTo}
 
 -- the texts: that of the input, and those of the netlist with its self-test, the schedule, the signatures and the certificate
 pub record Texts : Type 0 where

@@ -6,11 +6,11 @@ use Rattle.bb_forms.specs.SignatureText.{AreSignatureLines}
 use Rattle.bb_forms.specs.CertificateText.{AreCertificateLines}
 use Rattle.bb_audit.specs.Audited.{Audited}
 use Rattle.bb_audit.specs.Faults.{IsAuditFault}
-use Rattle.bb_say.specs.declared.refusal.FormRefusal.{FormRefusal}
-use Rattle.bb_say.specs.declared.refusal.FormRefusal.TheVariants.{TooLong, Line}
-use Rattle.bb_say.specs.declared.refusal.Refusal.{Refusal}
-use Rattle.bb_say.specs.declared.refusal.Refusal.TheVariants.{Input, Plan, Netlist, Schedule, Signatures, Certificate, Check}
-use Rattle.bb_named.specs.Texts.{file_limit, output_limit, IsTextRefused}
+use Rattle.bb_read.specs.declared.refusal.FormRefusal.{FormRefusal}
+use Rattle.bb_read.specs.declared.refusal.FormRefusal.TheVariants.{TooLong, Line}
+use Rattle.bb_read.specs.declared.refusal.Refusal.{Refusal}
+use Rattle.bb_read.specs.declared.refusal.Refusal.TheVariants.{Input, Plan, Netlist, Schedule, Signatures, Certificate, Check}
+use Rattle.bb_read.specs.Texts.{file_limit, output_limit, IsTextRefused}
 use Rattle.bb_check.specs.Passed.{Texts, IsInputOf, IsNetlistOf, IsScheduleOf, IsSignedBy, AreTextsOf}
 
 -- the text isn't of the form: it has more bytes than are read, or else this is its first line that isn't of the form or is missing

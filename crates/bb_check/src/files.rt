@@ -4,14 +4,14 @@ ghost use Rattle.std.specs.Prelude.{◌≡◌, ◌≤◌, ◌++◌, ◌∷◌, m
 ghost use Rattle.std.specs.List.{AllByRecursion};
 ghost use Rattle.bb_edge.specs.Causes.{Rose};
 ghost use Rattle.bb_base.specs.Order.{IsOrder};
-ghost use Rattle.bb_named.specs.Ready.{IsReady};
+ghost use Rattle.bb_read.specs.Ready.{IsReady};
 ghost use Rattle.bb_selftest.specs.SelfTest.{IsSelfTest};
 ghost use Rattle.bb_words.specs.Commands.{files_of};
 ghost use Rattle.bb_audit.specs.Audited.{Audited, audited};
 ghost use Rattle.bb_audit.specs.Signed.{values_of};
 ghost use Rattle.bb_audit.specs.Passing.{AuditPasses};
 ghost use Rattle.bb_audit.specs.Faults.{IsAuditFault};
-ghost use Rattle.bb_say.specs.declared.refusal.Refusal.{Refusal as RefusalValue};
+ghost use Rattle.bb_read.specs.declared.refusal.Refusal.{Refusal as RefusalValue};
 ghost use Rattle.bb_check.specs.Passed.{Texts, Pass, IsInputOf, IsNetlistOf};
 ghost use Rattle.bb_check.specs.Refused.{AreRefused};
 ghost use Rattle.bb_check.specs.Told.{in_order, read_for, HoldTexts, Tells, AreFilesOf, FilesPass, AreFilesRefused};
@@ -24,7 +24,7 @@ use bb_edge::Store;
 use bb_forms::{Certificate, Signature};
 use bb_net::Named;
 use bb_netlist::Order;
-use bb_say::{Refusal, Stop};
+use bb_read::{Refusal, Stop};
 use bb_terms::Plan;
 use std::alloc::Global;
 

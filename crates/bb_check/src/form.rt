@@ -5,9 +5,9 @@ ghost use Rattle.bb_edge.specs.Causes.{Rose};
 ghost use Rattle.bb_forms.specs.ScheduleText.{AreScheduleLines};
 ghost use Rattle.bb_forms.specs.SignatureText.{AreSignatureLines};
 ghost use Rattle.bb_forms.specs.CertificateText.{AreCertificateLines};
-ghost use Rattle.bb_say.specs.declared.refusal.Refusal.{Refusal as RefusalValue};
-ghost use Rattle.bb_say.specs.declared.refusal.FormRefusal.{FormRefusal as FormRefusalValue};
-ghost use Rattle.bb_named.specs.Texts.{output_limit};
+ghost use Rattle.bb_read.specs.declared.refusal.Refusal.{Refusal as RefusalValue};
+ghost use Rattle.bb_read.specs.declared.refusal.FormRefusal.{FormRefusal as FormRefusalValue};
+ghost use Rattle.bb_read.specs.Texts.{output_limit};
 ghost use Rattle.bb_check.specs.Passed.{IsScheduleOf, IsSignedBy, IsCertificateOf};
 ghost use Rattle.bb_check.specs.Refused.{IsFormRefused};
 ghost use Rattle.bb_check.specs.Told.{Tells};
@@ -17,8 +17,7 @@ use bb_edge::Store;
 use bb_forms::{
     Certificate, FormFault, Signature, read_certificate, read_schedule, read_signatures,
 };
-use bb_read::{ReadFault, read_whole};
-use bb_say::{FormRefusal, Refusal, Stop};
+use bb_read::{FormRefusal, ReadFault, Refusal, Stop, read_whole};
 use bb_terms::Plan;
 use std::alloc::Global;
 

@@ -5,14 +5,14 @@ ghost use Rattle.bb_edge.specs.Told.{Told};
 ghost use Rattle.bb_words.specs.Commands.{files_of};
 ghost use Rattle.bb_audit.specs.Audited.{Audited};
 ghost use Rattle.bb_audit.specs.Passing.{AuditPasses};
-ghost use Rattle.bb_say.specs.declared.refusal.Refusal.{Refusal as RefusalValue};
+ghost use Rattle.bb_read.specs.declared.refusal.Refusal.{Refusal as RefusalValue};
 ghost use Rattle.bb_check.specs.Passed.{Texts, AreTextsOf, Pass};
 ghost use Rattle.bb_check.specs.Refused.{AreRefused};
 ghost use Rattle.bb_check.specs.Told.{read_for, HoldTexts, AreFilesOf};
 
 use bb_audit::{one_audit, passing_is_good};
 use bb_forms::{one_certificate, one_list, one_plan};
-use bb_named::{one_end_of, read_netlists_are_named, read_netlists_are_ready};
+use bb_read::{one_end_of, read_netlists_are_named, read_netlists_are_ready};
 
 /// Texts of files that meet every rule pass, whoever wrote them.
 pub fn audit_is_enough()

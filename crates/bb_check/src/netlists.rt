@@ -3,18 +3,17 @@
 ghost use Rattle.std.specs.Prelude.{◌≡◌, ◌≤◌, ◌++◌, codes, true, false, IfOk, IsErrOf};
 ghost use Rattle.bb_edge.specs.Causes.{Rose};
 ghost use Rattle.bb_base.specs.Order.{IsOrder};
-ghost use Rattle.bb_named.specs.Ready.{IsReady};
-ghost use Rattle.bb_say.specs.declared.refusal.Refusal.{Refusal as RefusalValue};
-ghost use Rattle.bb_say.specs.declared.refusal.TextRefusal.{TextRefusal as TextRefusalValue};
-ghost use Rattle.bb_named.specs.Texts.{file_limit, output_limit, IsTextRefused};
+ghost use Rattle.bb_read.specs.Ready.{IsReady};
+ghost use Rattle.bb_read.specs.declared.refusal.Refusal.{Refusal as RefusalValue};
+ghost use Rattle.bb_read.specs.declared.refusal.TextRefusal.{TextRefusal as TextRefusalValue};
+ghost use Rattle.bb_read.specs.Texts.{file_limit, output_limit, IsTextRefused};
 ghost use Rattle.bb_check.specs.Passed.{IsInputOf, IsNetlistOf};
 ghost use Rattle.bb_check.specs.Told.{Tells};
 
 use bb_edge::Store;
-use bb_named::{FILE_LIMIT, NamedFault, read_named};
 use bb_net::Named;
 use bb_netlist::Order;
-use bb_say::{Refusal, Stop};
+use bb_read::{FILE_LIMIT, NamedFault, Refusal, Stop, read_named};
 use std::alloc::Global;
 
 /// The most bytes of each other file.

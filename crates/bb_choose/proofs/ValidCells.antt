@@ -8,7 +8,7 @@ use Rattle.bb_base.specs.Net.{Netlist, IsNetlist}
 use Rattle.bb_base.specs.Order.{IsOrder}
 use Rattle.bb_terms.specs.Paths.{is_free}
 use Rattle.bb_terms.specs.Cuts.{AreCuts}
-use Rattle.bb_cone.proofs.DrivenLemmas.{cuts_driven}
+use Rattle.bb_segment.proofs.DrivenLemmas.{cuts_driven}
 use Rattle.bb_terms.specs.Register.{IsFullMask}
 use Rattle.bb_code.proofs.OneChoice.{columns_below}
 use Rattle.bb_terms.specs.declared.plan.Cell.{Cell}

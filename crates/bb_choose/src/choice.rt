@@ -21,7 +21,7 @@ use crate::masks::all_masks;
 use crate::sources::{Sources, sources_in};
 use bb_base::Netlist;
 use bb_code::{Coded, DegreeFault, Need, degree};
-use bb_cone::CutFault;
+use bb_segment::CutFault;
 use bb_netlist::Order;
 use bb_reg::{Grouped, sessions};
 use bb_terms::Plan;

@@ -8,7 +8,7 @@ ghost use Rattle.bb_choose.specs.Choice.{IsUnmasked, IsFirstUnmasked};
 ghost use Rattle.bb_choose.specs.Coding.{HasLength};
 
 use arrayvec::ArrayVec;
-use bb_creg::{NoFullPeriod, taps};
+use bb_gf2::{NoFullPeriod, taps};
 use bb_terms::Register;
 
 /// Whether a register has so many cells.

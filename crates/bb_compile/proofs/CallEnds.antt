@@ -8,12 +8,12 @@ use Rattle.bb_words.specs.declared.command.Settings.{Settings}
 use Rattle.bb_choose.specs.Arranged.{AreInRange}
 use Rattle.bb_choose.specs.Enough.{IsEnough}
 use Rattle.bb_make.specs.Artifacts.{ArtifactsValue, AreArtifacts}
-use Rattle.bb_named.specs.Ready.{IsReady}
+use Rattle.bb_read.specs.Ready.{IsReady}
 use Rattle.bb_sample.specs.Sample.{sample_of}
-use Rattle.bb_say.specs.declared.refusal.TextRefusal.{TextRefusal}
-use Rattle.bb_say.specs.declared.refusal.Refusal.{Refusal}
-use Rattle.bb_say.specs.declared.refusal.Refusal.TheVariants.{Input, Plan, Netlist, Schedule, Signatures, Certificate, Check}
-use Rattle.bb_named.specs.Texts.{file_limit, IsReadable, ComesTo}
+use Rattle.bb_read.specs.declared.refusal.TextRefusal.{TextRefusal}
+use Rattle.bb_read.specs.declared.refusal.Refusal.{Refusal}
+use Rattle.bb_read.specs.declared.refusal.Refusal.TheVariants.{Input, Plan, Netlist, Schedule, Signatures, Certificate, Check}
+use Rattle.bb_read.specs.Texts.{file_limit, IsReadable, ComesTo}
 use Rattle.bb_compile.specs.Made.{IsMade, IsMadeSample}
 use Rattle.bb_compile.specs.Causes.{IsPlanRefused, IsNetlistRefused, IsRefused, IsSampleRefused}
 use Rattle.bb_compile.proofs.PlanEnds.{OneArrangement, EnoughLaws, not_both, not_lacking, netlist_made, netlist_roomy}

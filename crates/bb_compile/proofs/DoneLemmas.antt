@@ -1,7 +1,7 @@
 -- parts of the line of a call that is done, put together
 use Rattle.std.proofs.Common.{◌≡◌, ℕ, List, [], ◌++◌, ◌∙◌, ap, append_assoc, codes, decimal}
 use Rattle.bb_make.specs.declared.artifacts.Summary.{Summary}
-use Rattle.bb_say.proofs.LineLemmas.{behind3}
+use Rattle.bb_read.proofs.LineLemmas.{behind3}
 use Rattle.bb_compile.specs.Outputs.{done_line}
 
 behind4 : (a b c d z : List ℕ) → (a ++ (b ++ (c ++ d))) ++ z ≡ a ++ (b ++ (c ++ (d ++ z)))

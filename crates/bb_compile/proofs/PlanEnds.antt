@@ -19,10 +19,10 @@ use Rattle.bb_choose.specs.Arranged.{AreInRange, IsArranged}
 use Rattle.bb_choose.specs.Choice.{IsDegreeFor, IsPlanOf, OfArranged, LacksDegree, LacksCycles, LacksMask, HasFullMask, IsUnmasked, cycle_count}
 use Rattle.bb_choose.specs.Enough.{IsEnough}
 use Rattle.bb_make.specs.Artifacts.{ArtifactsValue, AreArtifacts}
-use Rattle.bb_say.specs.declared.refusal.PlanRefusal.{PlanRefusal}
-use Rattle.bb_say.specs.declared.refusal.PlanRefusal.TheVariants as plans
-use Rattle.bb_say.specs.declared.refusal.Refusal.{Refusal}
-use Rattle.bb_say.specs.declared.refusal.Refusal.TheVariants.{Input, Plan, Netlist as Written, Schedule, Signatures, Certificate, Check}
+use Rattle.bb_read.specs.declared.refusal.PlanRefusal.{PlanRefusal}
+use Rattle.bb_read.specs.declared.refusal.PlanRefusal.TheVariants as plans
+use Rattle.bb_read.specs.declared.refusal.Refusal.{Refusal}
+use Rattle.bb_read.specs.declared.refusal.Refusal.TheVariants.{Input, Plan, Netlist as Written, Schedule, Signatures, Certificate, Check}
 use Rattle.bb_compile.specs.Causes.{IsPlanRefused, IsNetlistRefused}
 
 -- two least numbers are one

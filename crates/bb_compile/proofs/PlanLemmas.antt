@@ -6,7 +6,7 @@ use Rattle.bb_base.specs.Net.{Gate, driven}
 use Rattle.bb_base.specs.Order.{IsOrder}
 use Rattle.bb_base.specs.Named.{Named, IsNamed}
 use Rattle.bb_terms.specs.Paths.{is_free}
-use Rattle.bb_cone.proofs.DrivenLemmas.{cuts_driven}
+use Rattle.bb_segment.proofs.DrivenLemmas.{cuts_driven}
 use Rattle.bb_terms.proofs.NetLemmas.{out_within}
 use Rattle.bb_choose.specs.ChosenPlan.{AreCutsOf}
 use Rattle.bb_reg.specs.Chosen.{grouped_of, GroupedValue}

@@ -9,7 +9,7 @@ use Rattle.bb_meaning.specs.Denotes.{ElaboratesTo}
 use Rattle.bb_spell.specs.Canonical.{canonical_text}
 use Rattle.bb_print.specs.Elaborated.{IsElaborable, Restores}
 use Rattle.bb_ctl.specs.OwnNames.{IsOwnName, HasOwnNames}
-use Rattle.bb_named.specs.Ready.{IsReady}
+use Rattle.bb_read.specs.Ready.{IsReady}
 use Rattle.bb_sample.specs.Sample.{sample_of}
 use Rattle.bb_compile.specs.Made.{IsReadAlone, sample_text}
 

@@ -8,11 +8,11 @@ use Rattle.bb_code.specs.declared.fault.Need.TheVariants.{Cells, Source}
 use Rattle.bb_words.specs.declared.command.Settings.{Settings}
 use Rattle.bb_choose.specs.Choice.{OfArranged, LacksDegree, LacksCycles, LacksMask}
 use Rattle.bb_sample.specs.Sample.{sample_of}
-use Rattle.bb_say.specs.declared.refusal.PlanRefusal.{PlanRefusal}
-use Rattle.bb_say.specs.declared.refusal.PlanRefusal.TheVariants as plans
-use Rattle.bb_say.specs.declared.refusal.Refusal.{Refusal}
-use Rattle.bb_say.specs.declared.refusal.Refusal.TheVariants.{Input, Plan, Netlist, Schedule, Signatures, Certificate, Check}
-use Rattle.bb_named.specs.Texts.{file_limit, IsReadable, IsTextRefused}
+use Rattle.bb_read.specs.declared.refusal.PlanRefusal.{PlanRefusal}
+use Rattle.bb_read.specs.declared.refusal.PlanRefusal.TheVariants as plans
+use Rattle.bb_read.specs.declared.refusal.Refusal.{Refusal}
+use Rattle.bb_read.specs.declared.refusal.Refusal.TheVariants.{Input, Plan, Netlist, Schedule, Signatures, Certificate, Check}
+use Rattle.bb_read.specs.Texts.{file_limit, IsReadable, IsTextRefused}
 
 -- the net has this name in texts
 abbrev pub IsNameOf : Named → ℕ → List ℕ → Option ℕ → Type 0

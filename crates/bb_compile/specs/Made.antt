@@ -8,7 +8,7 @@ use Rattle.bb_spell.specs.Canonical.{canonical_text}
 use Rattle.bb_sample.specs.Sample.{sample_of}
 use Rattle.bb_words.specs.declared.command.Settings.{Settings}
 use Rattle.bb_make.specs.Artifacts.{ArtifactsValue, AreArtifacts}
-use Rattle.bb_named.specs.Texts.{file_limit, IsReadable}
+use Rattle.bb_read.specs.Texts.{file_limit, IsReadable}
 
 -- These are made of the text for the settings: it isn't too long, and they are the artifacts of the netlist that it denotes, whose gates
 -- have this order.

@@ -4,7 +4,7 @@ use Rattle.bb_edge.specs.Files.{FileValue}
 use Rattle.bb_edge.specs.Told.{Told, Held}
 use Rattle.bb_words.specs.declared.command.Settings.{Settings}
 use Rattle.bb_make.specs.Artifacts.{ArtifactsValue}
-use Rattle.bb_say.specs.declared.refusal.Refusal.{Refusal}
+use Rattle.bb_read.specs.declared.refusal.Refusal.{Refusal}
 use Rattle.bb_compile.specs.Made.{IsMade, IsMadeSample}
 use Rattle.bb_compile.specs.Causes.{IsRefused}
 use Rattle.bb_compile.specs.Outputs.{outputs, sample_outputs, done_line}

@@ -3,16 +3,15 @@
 ghost use Rattle.std.specs.Prelude.{◌≡◌, ◌≤◌, IfOk, IsErrOf};
 ghost use Rattle.bb_edge.specs.Causes.{Rose};
 ghost use Rattle.bb_choose.specs.Arranged.{AreInRange};
-ghost use Rattle.bb_say.specs.declared.refusal.Refusal.{Refusal as RefusalValue};
-ghost use Rattle.bb_say.specs.declared.refusal.TextRefusal.{TextRefusal as TextRefusalValue};
+ghost use Rattle.bb_read.specs.declared.refusal.Refusal.{Refusal as RefusalValue};
+ghost use Rattle.bb_read.specs.declared.refusal.TextRefusal.{TextRefusal as TextRefusalValue};
 ghost use Rattle.bb_compile.specs.Prepared.{IsMadeOf, IsRefusedOf, IsPrepared};
 
 use crate::plan::made_of;
 use crate::prepared::{Prepared, prepared_behind};
 use bb_edge::Store;
 use bb_make::{Artifacts, Settings};
-use bb_named::{FILE_LIMIT, NamedFault, read_named};
-use bb_say::{Refusal, Stop};
+use bb_read::{FILE_LIMIT, NamedFault, Refusal, Stop, read_named};
 use std::alloc::Global;
 
 /// Why a call whose input gives no netlist stops.

@@ -4,7 +4,7 @@ ghost use Rattle.std.specs.Prelude.{◌≡◌, ◌++◌, IfOk, OnOk, codes, deci
 ghost use Rattle.bb_compile.specs.Outputs.{done_line};
 
 use bb_make::Summary;
-use bb_say::put_counted;
+use bb_read::put_counted;
 use std::alloc::{AllocError, Global};
 
 /// Appends the counts of a plan.

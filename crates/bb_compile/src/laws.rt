@@ -5,18 +5,18 @@ ghost use Rattle.bb_base.specs.Order.{IsOrder};
 ghost use Rattle.bb_base.specs.Named.{Named};
 ghost use Rattle.bb_words.specs.declared.command.Settings.{Settings as SettingsValue};
 ghost use Rattle.bb_sample.specs.Sample.{sample_of};
-ghost use Rattle.bb_named.specs.Ready.{IsReady};
+ghost use Rattle.bb_read.specs.Ready.{IsReady};
 ghost use Rattle.bb_choose.specs.Arranged.{AreInRange};
 ghost use Rattle.bb_choose.specs.Enough.{IsEnough};
 ghost use Rattle.bb_make.specs.Artifacts.{ArtifactsValue};
-ghost use Rattle.bb_say.specs.declared.refusal.Refusal.{Refusal as RefusalValue};
-ghost use Rattle.bb_named.specs.Texts.{file_limit, IsReadable};
+ghost use Rattle.bb_read.specs.declared.refusal.Refusal.{Refusal as RefusalValue};
+ghost use Rattle.bb_read.specs.Texts.{file_limit, IsReadable};
 ghost use Rattle.bb_compile.specs.Made.{IsMade, IsMadeSample, IsReadAlone, sample_text};
 ghost use Rattle.bb_compile.specs.Causes.{IsRefused, IsSampleRefused};
 
 use bb_choose::{enough_is_chosen, one_arrangement};
-use bb_named::{one_end_of, read_netlists_are_ready};
 use bb_print::canonical_elaborates;
+use bb_read::{one_end_of, read_netlists_are_ready};
 use bb_runs::one_order;
 use bb_sample::samples_are_netlists;
 

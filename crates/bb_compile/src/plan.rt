@@ -3,10 +3,10 @@
 ghost use Rattle.std.specs.Prelude.{◌≡◌, ◌<◌, ℕ, List, Option, length, IfOk, IsErrOf};
 ghost use Rattle.bb_base.specs.Order.{IsOrder};
 ghost use Rattle.bb_terms.specs.Cuts.{IsFirstWide};
-ghost use Rattle.bb_named.specs.Ready.{IsReady};
+ghost use Rattle.bb_read.specs.Ready.{IsReady};
 ghost use Rattle.bb_choose.specs.Arranged.{AreInRange};
 ghost use Rattle.bb_make.specs.Artifacts.{AreArtifacts};
-ghost use Rattle.bb_say.specs.declared.refusal.Refusal.{Refusal as RefusalValue};
+ghost use Rattle.bb_read.specs.declared.refusal.Refusal.{Refusal as RefusalValue};
 ghost use Rattle.bb_compile.specs.Causes.{IsNameOf, IsWideGate, IsNetlistRefused};
 
 use bb_base::{Name, NetId, index_of};
@@ -15,7 +15,7 @@ use bb_code::Need;
 use bb_make::{Artifacts, make};
 use bb_net::Named;
 use bb_netlist::Order;
-use bb_say::{PlanRefusal, Refusal, Stop};
+use bb_read::{PlanRefusal, Refusal, Stop};
 use bb_words::Settings;
 use std::alloc::{AllocError, Global};
 

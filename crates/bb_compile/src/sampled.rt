@@ -6,7 +6,7 @@ ghost use Rattle.bb_base.specs.Named.{design_of};
 ghost use Rattle.bb_spell.specs.Canonical.{canonical_text};
 ghost use Rattle.bb_sample.specs.Sample.{sample_of};
 ghost use Rattle.bb_choose.specs.Arranged.{AreInRange};
-ghost use Rattle.bb_say.specs.declared.refusal.Refusal.{Refusal as RefusalValue};
+ghost use Rattle.bb_read.specs.declared.refusal.Refusal.{Refusal as RefusalValue};
 ghost use Rattle.bb_compile.specs.Made.{IsMadeSample};
 ghost use Rattle.bb_compile.specs.Causes.{IsSampleRefused};
 ghost use Rattle.bb_compile.specs.Prepared.{IsPreparedSample};
@@ -18,9 +18,8 @@ use bb_make::{Artifacts, Settings};
 use bb_net::Named;
 use bb_netlist::{Order, OrderFault, find_order};
 use bb_print::print;
-use bb_read::File;
+use bb_read::{File, Stop};
 use bb_sample::sample;
-use bb_say::Stop;
 use std::alloc::{AllocError, Global};
 
 /// The order of the gates of a netlist that has one.

@@ -2,3 +2,8 @@ pub mod Evaluated
 pub mod Written
 pub mod Picked
 pub mod Settled
+pub mod LaneLemmas
+pub mod StepLemmas
+pub mod SignatureLemmas
+pub mod SourceLemmas
+pub mod TransposeLemmas

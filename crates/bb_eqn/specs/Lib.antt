@@ -1,2 +1,4 @@
 pub mod Values
 pub mod Sequence
+pub mod Lanes
+pub mod Transposed

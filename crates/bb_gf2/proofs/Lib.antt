@@ -9,3 +9,9 @@ pub mod Rows
 pub mod Cosets
 pub mod Existence
 pub mod BitLaws
+pub mod Injective
+pub mod Orbit
+pub mod WalkSteps
+pub mod BitSteps
+pub mod Linear
+pub mod Ending

@@ -11,7 +11,7 @@ use Rattle.bb_terms.specs.Kinds.{is_cut}
 use Rattle.bb_terms.specs.Plan.{RegisterValue, PlanValue, chain, IsCell}
 use Rattle.bb_terms.specs.Lines.{cut_nets}
 use Rattle.bb_terms.specs.Valid.{column_at}
-use Rattle.bb_fits.proofs.FirstWrong.{item_at}
+use Rattle.bb_plan.proofs.FirstWrong.{item_at}
 use Rattle.bb_plan.proofs.PlaceLemmas.{take_long}
 use Rattle.bb_plan.specs.declared.chain.Link.{Link}
 use Rattle.bb_plan.specs.Chain.{links_in, links_from, has_cut, column_of_cell, register_of_cell}

@@ -13,8 +13,8 @@ use Rattle.bb_terms.specs.Kinds.{is_observer}
 use Rattle.bb_terms.specs.Plan.{PlanValue, chain, IsCell, observers, lists_register}
 use Rattle.bb_terms.specs.Rules.{Sessions, Conflicts, Holds, HasNoConflict, MayCompact}
 use Rattle.bb_rules.proofs.CellLemmas.{cell_at}
-use Rattle.bb_fits.specs.Answers.{MeetsTo, IsVerdict}
-use Rattle.bb_fits.proofs.Items.{any_item, any_of}
+use Rattle.bb_plan.specs.Answers.{MeetsTo, IsVerdict}
+use Rattle.bb_plan.proofs.Items.{any_item, any_of}
 use Rattle.bb_plan.specs.declared.chain.Link.{Link}
 use Rattle.bb_plan.specs.Chain.{links_from, register_of_cell}
 use Rattle.bb_plan.specs.Layout.{LineValue, IsObservedLine}

@@ -7,8 +7,8 @@ use Rattle.bb_base.specs.Order.{IsOrder}
 use Rattle.bb_terms.specs.Plan.{PlanValue, chain}
 use Rattle.bb_terms.specs.Rules.{Rule, Frame, Registers, Kinds, Apart, Served, Pure, Sessions, Compacted, Room, Columns, Widths, Conflicts, Codes, Period, rule_number, FailsAt}
 use Rattle.bb_terms.specs.Valid.{IsRuleFault, IsValidPlan}
-use Rattle.bb_fits.specs.Answers.{MeetsTo}
-use Rattle.bb_fits.proofs.Stages.{first_fault}
+use Rattle.bb_plan.specs.Answers.{MeetsTo}
+use Rattle.bb_plan.proofs.Stages.{first_fault}
 use Rattle.bb_plan.specs.Answered.{IsAnsweredFault}
 use Rattle.bb_plan.proofs.ConflictLemmas.{few_sessions}
 use Rattle.bb_plan.proofs.LayoutLemmas.{few_cells}

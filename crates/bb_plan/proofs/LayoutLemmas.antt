@@ -9,9 +9,9 @@ use Rattle.bb_terms.specs.Lines.{is_stop}
 use Rattle.bb_terms.specs.Rules.{Frame, Registers, Kinds, Apart, Room}
 use Rattle.bb_plan.specs.declared.chain.Link.{Link}
 use Rattle.bb_plan.specs.Chain.{links_from, has_cut, AreOnNets, HaveOneSource}
-use Rattle.bb_fits.specs.Answers.{MeetsTo}
+use Rattle.bb_plan.specs.Answers.{MeetsTo}
 use Rattle.bb_plan.proofs.ChainLemmas.{at_chain, chain_long, has_cut_is}
-use Rattle.bb_fits.proofs.Driven.{stands_within}
+use Rattle.bb_plan.proofs.Driven.{stands_within}
 use Rattle.bb_plan.proofs.PlaceLemmas.{few_parts}
 use Rattle.bb_rules.proofs.SourceLemmas.{one_source}
 

@@ -10,3 +10,9 @@ pub mod ConflictLemmas
 pub mod IndependentLemmas
 pub mod CodingLemmas
 pub mod FaultLemmas
+pub mod FirstWrong
+pub mod Items
+pub mod OnNets
+pub mod Driven
+pub mod Listings
+pub mod Stages

@@ -23,7 +23,7 @@ use Rattle.bb_rules.proofs.CellLemmas.{column_is}
 use Rattle.bb_rules.proofs.CodeLemmas.{one_start}
 use Rattle.bb_terms.proofs.StopLemmas.{source_at, leaf_within}
 use Rattle.bb_plan.specs.declared.chain.Link.{Link}
-use Rattle.bb_fits.specs.Answers.{MeetsTo}
+use Rattle.bb_plan.specs.Answers.{MeetsTo}
 use Rattle.bb_plan.specs.Layout.{IsLayout, IsObservedLine}
 use Rattle.bb_plan.proofs.ChainLemmas.{at_link}
 

@@ -1,7 +1,7 @@
 //! What is read of a plan before its lines are walked.
 
 ghost use Rattle.std.specs.Prelude.{IfOk};
-ghost use Rattle.bb_fits.specs.Answers.{MeetsTo};
+ghost use Rattle.bb_plan.specs.Answers.{MeetsTo};
 ghost use Rattle.bb_plan.specs.Layout.{IsLayout};
 
 use crate::chain::{Link, chain_of};

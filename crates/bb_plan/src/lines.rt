@@ -9,7 +9,7 @@ ghost use Rattle.bb_terms.specs.Kinds.{is_observer};
 ghost use Rattle.bb_terms.specs.Plan.{observers, chain};
 ghost use Rattle.bb_terms.specs.Lines.{IsStart};
 ghost use Rattle.bb_terms.specs.Rules.{Holds, FailsAt, Widths, Fits, IsNarrow, AreLeavesOf};
-ghost use Rattle.bb_fits.specs.Answers.{MeetsTo};
+ghost use Rattle.bb_plan.specs.Answers.{MeetsTo};
 ghost use Rattle.bb_plan.specs.Layout.{IsLayout, IsObservedLine};
 
 use crate::layout::Layout;

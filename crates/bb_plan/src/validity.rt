@@ -3,9 +3,10 @@ ghost use Rattle.bb_base.specs.Order.{IsOrder};
 ghost use Rattle.bb_terms.specs.Valid.{IsValidFor};
 ghost use Rattle.bb_plan.specs.Answered.{IsAnsweredFault};
 
+use crate::bounds::period;
+use crate::first::first_misfit;
 use crate::walked::walked_segments;
 use bb_base::Netlist;
-use bb_fits::{first_misfit, period};
 use bb_netlist::Order;
 use bb_terms::{Plan, PlanFault, Valid};
 use std::alloc::Global;

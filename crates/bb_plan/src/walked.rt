@@ -2,7 +2,7 @@
 
 ghost use Rattle.std.specs.Prelude.{ℕ, IfOk, OnOk, IsErrOf, Some};
 ghost use Rattle.std.specs.List.{AllZip};
-ghost use Rattle.bb_fits.specs.Answers.{MeetsTo, IsVerdict};
+ghost use Rattle.bb_plan.specs.Answers.{MeetsTo, IsVerdict};
 ghost use Rattle.bb_terms.specs.Plan.{observers};
 ghost use Rattle.bb_terms.specs.Rules.{Conflicts};
 ghost use Rattle.bb_terms.specs.Valid.{IsSegmentOf};

@@ -7,9 +7,8 @@ ghost use Rattle.bb_terms.specs.Support.{StartExists};
 
 use crate::netlists::{TOGGLE, read};
 use bb_base::{Driver, NetId, Netlist};
-use bb_cone::{CutFault, cuts};
 use bb_netlist::Order;
-use bb_segment::{Walk, Wide, support};
+use bb_segment::{CutFault, Walk, Wide, cuts, support};
 use bb_terms::Start;
 use std::alloc::{AllocError, Global};
 

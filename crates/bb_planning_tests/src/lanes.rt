@@ -3,7 +3,7 @@
 ghost use Rattle.std.specs.Prelude.{◌≡◌};
 
 use bb_base::{Gate, NetId, Op};
-use bb_word::{eval, lines_at, misr_step, source_words, transpose};
+use bb_eqn::{eval, lines_at, misr_step, source_words, transpose};
 use smallvec::SmallVec;
 use std::alloc::Global;
 

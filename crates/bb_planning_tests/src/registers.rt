@@ -5,7 +5,7 @@ ghost use Rattle.std.specs.Prelude.{◌≡◌, [], ◌∷◌, true, false};
 ghost use Rattle.bb_terms.specs.Register.{IsDegree, IsMask};
 ghost use Rattle.bb_terms.specs.Signature.{signature};
 
-use bb_creg::{Short, next, taps, walk};
+use bb_gf2::{Short, next, taps, walk};
 use std::process::Abort;
 
 fn assert_states(rt: &impl Abort, degree: u32, mask: u32, states: &[u32])

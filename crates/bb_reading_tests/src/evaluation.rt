@@ -6,7 +6,7 @@ ghost use Rattle.bb_base.specs.Order.{IsOrder};
 use bb_base::{NetId, Netlist};
 use bb_edge::MemStore;
 use bb_eqn::settle;
-use bb_named::read_named;
+use bb_read::read_named;
 use bb_net::Named;
 use bb_netlist::Order;
 use std::alloc::{AllocError, Global};

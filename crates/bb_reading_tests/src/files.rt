@@ -2,7 +2,7 @@
 
 use bb_base::{Driver, NetId};
 use bb_edge::MemStore;
-use bb_named::read_named;
+use bb_read::read_named;
 use bb_net::Named;
 use bb_netlist::Order;
 use std::alloc::{AllocError, Global};

@@ -10,7 +10,7 @@ use Rattle.bb_base.specs.Parity.{code_bit}
 use Rattle.bb_gf2.proofs.Pairing.{duals_from_least}
 use Rattle.bb_gf2.proofs.Existence.{duals_exist, duals_below}
 use Rattle.bb_terms.specs.Register.{state_after}
-use Rattle.bb_creg.proofs.Orbit.{vector_comes}
+use Rattle.bb_gf2.proofs.Orbit.{vector_comes}
 use Rattle.bb_base.proofs.Lists.{map_twice, length_map}
 use Rattle.bb_base.proofs.Contained.{of_all, each_same}
 use Rattle.bb_terms.specs.Paths.{Start, Behind, IsLeaf}

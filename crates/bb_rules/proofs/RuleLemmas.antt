@@ -3,7 +3,7 @@ use Rattle.std.proofs.Common.{◌≡◌, ◌⊎◌, inl, inr, ℕ, zero, suc, �
 use Rattle.std.specs.List.{AllByRecursion}
 use Rattle.bb_base.proofs.Contained.{at_place}
 use Rattle.bb_base.specs.Net.{Netlist}
-use Rattle.bb_creg.proofs.Orbit.{first_return, first_unique}
+use Rattle.bb_gf2.proofs.Orbit.{first_return, first_unique}
 use Rattle.bb_base.specs.Places.{EachAt, IsFirstWrong}
 use Rattle.bb_terms.specs.Plan.{PlanValue}
 use Rattle.bb_terms.specs.Rules.{Rule, Frame, Registers, Kinds, Apart, Served, Pure, Sessions, Compacted, Room, Columns, Widths, Conflicts, Codes, Period, rule_number, Holds, FailsAt, IsFrame}

@@ -8,3 +8,9 @@ pub mod CutLemmas
 pub mod ShortLemmas
 pub mod ValueLemmas
 pub mod ChangeLemmas
+pub mod CutOutcomes
+pub mod PlaceLemmas
+pub mod EntryLemmas
+pub mod StepLemmas
+pub mod TableLemmas
+pub mod DrivenLemmas

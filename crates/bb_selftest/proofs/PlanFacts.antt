@@ -8,8 +8,8 @@ use Rattle.bb_base.specs.Parity.{code_bit, code_of_bits}
 use Rattle.bb_gf2.proofs.BitLaws.{code_of_bits-bits}
 use Rattle.bb_terms.specs.Register.{state_after}
 use Rattle.bb_terms.specs.OnBits.{bits_after}
-use Rattle.bb_creg.proofs.BitSteps.{bits-state}
-use Rattle.bb_creg.proofs.Orbit.{state_below}
+use Rattle.bb_gf2.proofs.BitSteps.{bits-state}
+use Rattle.bb_gf2.proofs.Orbit.{state_below}
 use Rattle.bb_terms.specs.declared.kind.Kind.{Kind}
 use Rattle.bb_terms.specs.declared.kind.Kind.TheVariants.{Input, State, Split, Cut, Watch, Output}
 use Rattle.bb_terms.specs.declared.plan.Cell.{Cell}

@@ -15,8 +15,8 @@ use Rattle.bb_terms.proofs.NetLemmas.{out_within}
 use Rattle.bb_eqn.specs.Values.{bits_at}
 use Rattle.bb_eqn.proofs.Evaluated.{none_before}
 use Rattle.bb_eqn.proofs.Settled.{ins_below}
-use Rattle.bb_word.specs.Lanes.{lane, in_lane}
-use Rattle.bb_word.proofs.LaneLemmas.{bit_in_lane}
+use Rattle.bb_eqn.specs.Lanes.{lane, in_lane}
+use Rattle.bb_eqn.proofs.LaneLemmas.{bit_in_lane}
 use Rattle.bb_sign.specs.Bits.{noted_column, AreReadColumns, AreBitsAt}
 use Rattle.bb_sign.specs.Evaluation.{EvaluationValue, AreNotedSources, AreOpenGates, CanBeEvaluated, AreGivenBits, IsEvaluation}
 use Rattle.bb_sign.proofs.SourceLemmas.{noted_within}

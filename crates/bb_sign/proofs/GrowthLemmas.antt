@@ -12,16 +12,16 @@ use Rattle.bb_terms.specs.Register.{state_after}
 use Rattle.bb_terms.specs.OnBits.{zeros}
 use Rattle.bb_terms.specs.Signature.{signature, signature_step, next_signature}
 use Rattle.bb_terms.proofs.Growth.{grows, length_signature}
-use Rattle.bb_creg.proofs.BitSteps.{bits-signature}
-use Rattle.bb_creg.proofs.WalkSteps.{size_is}
+use Rattle.bb_gf2.proofs.BitSteps.{bits-signature}
+use Rattle.bb_gf2.proofs.WalkSteps.{size_is}
 use Rattle.bb_terms.specs.declared.plan.Cell.{Cell}
 use Rattle.bb_terms.specs.Plan.{RegisterValue, PlanValue, has_input}
 use Rattle.bb_terms.specs.Rules.{Kinds, Fits, IsFrame}
 use Rattle.bb_terms.specs.Valid.{IsValidPlan}
 use Rattle.bb_terms.specs.Signatures.{IsLineBit}
 use Rattle.bb_eqn.specs.Values.{bits_at}
-use Rattle.bb_word.specs.Lanes.{in_lane}
-use Rattle.bb_word.proofs.SignatureLemmas.{next_below}
+use Rattle.bb_eqn.specs.Lanes.{in_lane}
+use Rattle.bb_eqn.proofs.SignatureLemmas.{next_below}
 use Rattle.bb_sign.specs.Bits.{AreBitsAt}
 use Rattle.bb_sign.specs.Compactors.{CompactorValue, IsCompactor, IsLineStart, AreHeld, AreSignedUntil, AreSigned, compacted, line_word, start_bit}
 use Rattle.bb_sign.proofs.ColumnLemmas.{in_chain}

@@ -4,8 +4,8 @@ use Rattle.std.proofs.lemmas.List.{map_more, take_more_set, length-map}
 use Rattle.bb_base.proofs.Lists.{map_join}
 use Rattle.bb_base.specs.Bits.{from_bits}
 use Rattle.bb_gf2.proofs.Pairing.{from_bits_below}
-use Rattle.bb_word.specs.Lanes.{lane, in_lane}
-use Rattle.bb_word.proofs.LaneLemmas.{lane_zero}
+use Rattle.bb_eqn.specs.Lanes.{lane, in_lane}
+use Rattle.bb_eqn.proofs.LaneLemmas.{lane_zero}
 
 -- a word is as long as its list
 pub word_below : {X : Type 0} (f : X → Bool) (xs : List X) → from_bits (map f xs) < 2 ^ length xs

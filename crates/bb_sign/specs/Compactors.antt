@@ -10,7 +10,7 @@ use Rattle.bb_terms.specs.Function.{line_bit}
 use Rattle.bb_terms.specs.Support.{start_in, StartExists}
 use Rattle.bb_terms.specs.declared.start.Start.{Start as CodeStart}
 use Rattle.bb_eqn.specs.Values.{bits_at}
-use Rattle.bb_word.specs.Lanes.{in_lane}
+use Rattle.bb_eqn.specs.Lanes.{in_lane}
 use Rattle.bb_terms.specs.declared.plan.Cell.{Cell}
 use Rattle.bb_terms.specs.Plan.{RegisterValue, PlanValue, has_input}
 use Rattle.bb_terms.specs.Lines.{IsStart}

@@ -3,11 +3,11 @@
 ghost use Rattle.std.specs.Prelude.{◌≡◌, ◌<◌, ◌^◌, ℕ, Some, length, slice_get, slice_index, All, Contains};
 ghost use Rattle.bb_terms.specs.Register.{IsDegree, IsMask};
 ghost use Rattle.bb_eqn.specs.Values.{bits_at};
-ghost use Rattle.bb_word.specs.Lanes.{in_lane, state_on};
+ghost use Rattle.bb_eqn.specs.Lanes.{in_lane, state_on};
 ghost use Rattle.bb_sign.specs.Evaluation.{CanBeEvaluated, AreGivenBits};
 
 use crate::evaluation::Evaluation;
-use bb_word::{eval, source_words};
+use bb_eqn::{eval, source_words};
 
 /// Puts words at their nets.
 fn put_words(nets: &[u32], words: &[u64], values: &mut [u64])

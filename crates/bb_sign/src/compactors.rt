@@ -5,14 +5,14 @@ ghost use Rattle.std.specs.List.{AllZip};
 ghost use Rattle.bb_base.specs.Net.{driven, IsNetlist};
 ghost use Rattle.bb_base.specs.Bits.{from_bits};
 ghost use Rattle.bb_terms.specs.Valid.{IsValidPlan};
-ghost use Rattle.bb_word.specs.Lanes.{in_lane};
+ghost use Rattle.bb_eqn.specs.Lanes.{in_lane};
 ghost use Rattle.bb_sign.specs.Compactors.{CompactorValue, HasFewLines, IsCompactor, AreHeld, taken_in, compacted};
 
 use crate::lines::rows_of;
 use crate::starts::starts_of;
 use bb_base::Netlist;
 use bb_terms::{Plan, Register, Start};
-use bb_word::{lines_at, misr_step, transpose};
+use bb_eqn::{lines_at, misr_step, transpose};
 use std::alloc::{AllocError, Global};
 use std::marker::Model;
 

@@ -5,12 +5,12 @@ ghost use Rattle.bb_base.specs.Net.{driven};
 ghost use Rattle.bb_base.specs.Bits.{from_bits};
 ghost use Rattle.bb_terms.specs.Support.{StartExists};
 ghost use Rattle.bb_eqn.specs.Values.{bits_at};
-ghost use Rattle.bb_word.specs.Lanes.{lane, in_lane};
+ghost use Rattle.bb_eqn.specs.Lanes.{lane, in_lane};
 ghost use Rattle.bb_sign.specs.Compactors.{start_bit, line_word};
 
 use bb_base::Netlist;
 use bb_terms::Start;
-use bb_word::gate_word;
+use bb_eqn::gate_word;
 
 /// The bits of a line, a lane a state.
 fn line_of(netlist: &Netlist, start: Start, values: &[u64]) -> u64

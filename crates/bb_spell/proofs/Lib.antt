@@ -11,3 +11,11 @@ pub mod Rising
 pub mod Shorter
 pub mod Words
 pub mod Back
+pub mod BackLines
+pub mod Told
+pub mod Leading
+pub mod LineAgain
+pub mod MoreBits
+pub mod MoreNames
+pub mod OneKind
+pub mod Standing

@@ -4,3 +4,6 @@ pub mod TextLines
 pub mod Limits
 pub mod Front
 pub mod Spelling
+pub mod Forms
+pub mod Lines
+pub mod Places

@@ -3,7 +3,7 @@ use Rattle.std.proofs.Common.{◌≡◌, ℕ, ◌+◌, ◌^◌, ◌<◌, ◌≤�
 use Rattle.std.proofs.lemmas.Bool.Decides.{nat_tests}
 use Rattle.bb_terms.specs.Register.{IsMask, IsFullPeriod}
 use Rattle.bb_terms.specs.OnBits.{bits_after}
-use Rattle.bb_creg.proofs.Ending.{end_is_last, goes_round}
+use Rattle.bb_gf2.proofs.Ending.{end_is_last, goes_round}
 use Rattle.bb_testrun.specs.Control.{ReturnsAfter}
 
 some_states : (k : ℕ) → 0 < 2 ^ k

@@ -9,8 +9,8 @@ use Rattle.bb_testrun.specs.Control.{ReturnsAfter}
 use Rattle.bb_base.specs.Parity.{code_of_bits}
 use Rattle.bb_testrun.specs.Reading.{MeetsAll}
 use Rattle.bb_gf2.proofs.BitLaws.{code_of_bits-bits}
-use Rattle.bb_creg.proofs.BitSteps.{bits-state}
-use Rattle.bb_creg.proofs.Orbit.{state_below, vector_comes}
+use Rattle.bb_gf2.proofs.BitSteps.{bits-state}
+use Rattle.bb_gf2.proofs.Orbit.{state_below, vector_comes}
 use Rattle.bb_base.proofs.Lists.{same_map}
 use Rattle.bb_testrun.proofs.ReadCodes.{reads_codes}
 

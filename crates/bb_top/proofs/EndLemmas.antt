@@ -7,10 +7,10 @@ use Rattle.bb_read.specs.Files.{AreWhole, SameButAll, AreCutShort, names_of}
 use Rattle.bb_words.specs.Commands.{CommandValue, names_written}
 use Rattle.bb_words.specs.Calls.{Means}
 use Rattle.bb_make.specs.Artifacts.{ArtifactsValue}
-use Rattle.bb_say.specs.declared.refusal.Refusal.{Refusal}
-use Rattle.bb_say.specs.declared.stop.Stop.{Stop}
-use Rattle.bb_say.specs.declared.stop.Stop.TheVariants as stops
-use Rattle.bb_say.specs.Lines.{refusal_line}
+use Rattle.bb_read.specs.declared.refusal.Refusal.{Refusal}
+use Rattle.bb_read.specs.declared.stop.Stop.{Stop}
+use Rattle.bb_read.specs.declared.stop.Stop.TheVariants as stops
+use Rattle.bb_read.specs.Lines.{refusal_line}
 use Rattle.bb_compile.specs.Outputs.{done_line}
 use Rattle.bb_top.specs.Ends.{Made, Passed, IsMadeFor, files_for, HavePassed, IsRefusal, IsUnwritten, Answer, Done, Refused, Usage, SameName, answer_line, IsAsSaid, IsUnsaid, pass_line}
 use Rattle.bb_top.specs.Needs.{HasNeeds, HasRefusal}

@@ -5,11 +5,11 @@ use Rattle.bb_base.specs.Variables.{bit_count}
 use Rattle.bb_base.specs.Named.{Named, IsNamed}
 use Rattle.bb_words.specs.declared.command.Settings.{Settings}
 use Rattle.bb_words.specs.Commands.{Check}
-use Rattle.bb_named.specs.Ready.{IsReady}
+use Rattle.bb_read.specs.Ready.{IsReady}
 use Rattle.bb_make.specs.Artifacts.{ArtifactsValue, AreArtifacts}
 use Rattle.bb_audit.specs.Audited.{Audited}
 use Rattle.bb_audit.specs.Passing.{AuditPasses}
-use Rattle.bb_named.specs.Texts.{file_limit, IsReadable}
+use Rattle.bb_read.specs.Texts.{file_limit, IsReadable}
 use Rattle.bb_sample.specs.Sample.{sample_of}
 use Rattle.bb_compile.specs.Made.{IsMade, IsMadeSample, sample_text}
 use Rattle.bb_compile.specs.Outputs.{outputs, sample_outputs}

@@ -4,7 +4,7 @@ use Rattle.std.specs.List.{AllByRecursion}
 use Rattle.bb_edge.specs.Files.{FileValue}
 use Rattle.bb_edge.specs.Told.{Told, Held}
 use Rattle.bb_make.specs.Artifacts.{ArtifactsValue}
-use Rattle.bb_named.specs.Texts.{output_limit}
+use Rattle.bb_read.specs.Texts.{output_limit}
 use Rattle.bb_check.specs.Passed.{Texts}
 
 -- the text of IN and those that are made of it

@@ -6,8 +6,8 @@ use Rattle.bb_read.specs.Files.{AreWhole, SameButAll, AreCutShort}
 use Rattle.bb_words.specs.Commands.{CommandValue, Compile, Check, Sample, names_written, HasSameName}
 use Rattle.bb_words.specs.Calls.{Means}
 use Rattle.bb_make.specs.Artifacts.{ArtifactsValue}
-use Rattle.bb_say.specs.declared.refusal.Refusal.{Refusal}
-use Rattle.bb_say.specs.Lines.{refusal_line}
+use Rattle.bb_read.specs.declared.refusal.Refusal.{Refusal}
+use Rattle.bb_read.specs.Lines.{refusal_line}
 use Rattle.bb_compile.specs.Made.{IsMadeSample}
 use Rattle.bb_compile.specs.Causes.{IsSampleRefused}
 use Rattle.bb_compile.specs.Outputs.{outputs, sample_outputs, done_line}

@@ -7,8 +7,8 @@ use Rattle.bb_words.specs.declared.command.Settings.{Settings}
 use Rattle.bb_words.specs.Commands.{CommandValue, Compile, Check, Sample, names_read}
 use Rattle.bb_choose.specs.Enough.{IsEnough}
 use Rattle.bb_sample.specs.Sample.{sample_of}
-use Rattle.bb_say.specs.declared.refusal.Refusal.{Refusal}
-use Rattle.bb_named.specs.Texts.{file_limit, IsReadable}
+use Rattle.bb_read.specs.declared.refusal.Refusal.{Refusal}
+use Rattle.bb_read.specs.Texts.{file_limit, IsReadable}
 use Rattle.bb_compile.specs.Causes.{IsRefused, IsSampleRefused}
 use Rattle.bb_check.specs.Passed.{Texts, Pass}
 use Rattle.bb_check.specs.Refused.{AreRefused}

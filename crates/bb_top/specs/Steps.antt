@@ -4,8 +4,8 @@ use Rattle.bb_edge.specs.Causes.{Rose}
 use Rattle.bb_edge.specs.Told.{Told, AppendsAll, AppendsFront}
 use Rattle.bb_words.specs.Commands.{CommandValue, Compile, Check, Sample}
 use Rattle.bb_choose.specs.Arranged.{AreInRange}
-use Rattle.bb_say.specs.declared.refusal.Refusal.{Refusal}
-use Rattle.bb_say.specs.Lines.{refusal_line}
+use Rattle.bb_read.specs.declared.refusal.Refusal.{Refusal}
+use Rattle.bb_read.specs.Lines.{refusal_line}
 use Rattle.bb_top.specs.Ends.{Success, success_line, IsDone, IsRefusal, IsUnwritten, Answer, answer_line, IsAsSaid}
 use Rattle.bb_top.specs.Needs.{HasNeeds, HasRefusal}
 

@@ -5,13 +5,12 @@ ghost use Rattle.std.specs.List.{AllByRecursion};
 ghost use Rattle.bb_edge.specs.Causes.{Rose};
 ghost use Rattle.bb_edge.specs.Told.{AppendsAll, AppendsFront};
 ghost use Rattle.bb_read.specs.Files.{names_of, AreApart, AreWhole, SameButAll, AreCutShort};
-ghost use Rattle.bb_say.specs.declared.refusal.Refusal.{Refusal as RefusalValue};
-ghost use Rattle.bb_say.specs.Lines.{refusal_line};
+ghost use Rattle.bb_read.specs.declared.refusal.Refusal.{Refusal as RefusalValue};
+ghost use Rattle.bb_read.specs.Lines.{refusal_line};
 
 use bb_compile::Prepared;
 use bb_edge::{Failed, Sink, Store};
-use bb_read::write_files;
-use bb_say::{Refusal, Stop, line_of};
+use bb_read::{Refusal, Stop, line_of, write_files};
 use std::alloc::Global;
 
 /// Puts the line of a refusal, and answers the status.

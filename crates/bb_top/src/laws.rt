@@ -5,7 +5,7 @@ ghost use Rattle.bb_edge.specs.Told.{Told, Held};
 ghost use Rattle.bb_words.specs.declared.command.Settings.{Settings as SettingsValue};
 ghost use Rattle.bb_words.specs.Commands.{Check};
 ghost use Rattle.bb_make.specs.Artifacts.{ArtifactsValue};
-ghost use Rattle.bb_named.specs.Texts.{file_limit};
+ghost use Rattle.bb_read.specs.Texts.{file_limit};
 ghost use Rattle.bb_compile.specs.Made.{IsMade, IsMadeSample, sample_text};
 ghost use Rattle.bb_compile.specs.Outputs.{outputs, sample_outputs};
 ghost use Rattle.bb_check.specs.Passed.{Pass};
@@ -13,8 +13,8 @@ ghost use Rattle.bb_top.specs.Needs.{HasNeeds};
 ghost use Rattle.bb_top.specs.Checked.{texts_with, AreShort, AreTold};
 
 use bb_check::audit_is_enough;
-use bb_named::read_netlists_are_ready;
 use bb_passing::made_files_pass;
+use bb_read::read_netlists_are_ready;
 
 /// What `compile` makes of a text passes beside it, and what `sample` makes passes beside the sample's own text. So a `check` of files
 /// that hold it has what it needs, and nothing is refused.

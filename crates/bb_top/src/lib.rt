@@ -10,7 +10,7 @@
 //! All is made before the first byte is written, and no memory is taken from then on; no contract says so.
 //!
 //! `specs/Ends.antt` says how a call may end, and `specs/Needs.antt` what a command needs. What is made stands in `bb_compile`, what passes
-//! in `bb_check`, how refusals are put in `bb_say`, and what words mean in `bb_words`. `specs/Steps.antt` serves proofs, and no public
+//! in `bb_check`, how refusals are put in `bb_read`, and what words mean in `bb_words`. `specs/Steps.antt` serves proofs, and no public
 //! contract cites it.
 #![tactic(auto)]
 

@@ -3,8 +3,8 @@ ghost use Rattle.bb_edge.specs.Causes.{Rose};
 ghost use Rattle.bb_edge.specs.Told.{AppendsAll};
 ghost use Rattle.bb_words.specs.Commands.{CommandValue, names_read, names_written, HasSameName};
 ghost use Rattle.bb_words.specs.Calls.{Means};
-ghost use Rattle.bb_say.specs.declared.refusal.Refusal.{Refusal as RefusalValue};
-ghost use Rattle.bb_say.specs.Lines.{refusal_line};
+ghost use Rattle.bb_read.specs.declared.refusal.Refusal.{Refusal as RefusalValue};
+ghost use Rattle.bb_read.specs.Lines.{refusal_line};
 ghost use Rattle.bb_top.specs.Ends.{Success, success_line, IsDone, IsRefusal, IsUnwritten, IsUnsaid, MeanNothing, usage_line, same_name_line};
 ghost use Rattle.bb_top.specs.Needs.{HasNeeds, HasRefusal};
 

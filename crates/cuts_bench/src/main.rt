@@ -6,7 +6,7 @@ ghost use Rattle.bb_base.specs.Order.{IsOrder};
 
 use bb_base::Netlist;
 use bb_canon::read_canonical;
-use bb_cone::cuts;
+use bb_segment::cuts;
 use bb_net::Named;
 use bb_netlist::{Order, find_order};
 use std::alloc::Global;

@@ -1,5 +1,5 @@
 use Rattle.std.proofs.Common.{arith, ◌≡◌, ◌<◌, length, sym, ap, ◌∙◌}
-use Rattle.bb_fits.proofs.FirstWrong.{one_more, none_wrong}
+use Rattle.bb_plan.proofs.FirstWrong.{one_more, none_wrong}
 use Rattle.bb_forms.specs.CertificateText.{CertificateSegmentValue}
 use Rattle.bb_alike.proofs.ListLemmas.{item_at, not_both}
 use Rattle.bb_audit.specs.Certified.{HaveDuals}

@@ -1,5 +1,5 @@
 use Rattle.bb_audit.specs.Certified.{HaveDuals}
-use Rattle.bb_fits.proofs.FirstWrong.{HoldsBefore}
+use Rattle.bb_plan.proofs.FirstWrong.{HoldsBefore}
 use Rattle.bb_audit.proofs.duals.first_without.Given as goal
 
 abbrev pub invariant-lines : goal.invariant-lines

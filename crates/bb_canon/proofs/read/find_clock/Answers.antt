@@ -1,7 +1,7 @@
 use Rattle.std.proofs.Common.{◌≡◌, Some, None, true, false, sym, ap, subst, ◌∙◌, rules}
 use Rattle.std.proofs.lemmas.Option.{same_Some}
 use Rattle.bb_canon.specs.Sections.{clocks}
-use Rattle.bb_lines.specs.Lines.{flop_of}
+use Rattle.bb_spell.specs.Lines.{flop_of}
 use Rattle.bb_spell.specs.TextLines.{first_line}
 use Rattle.bb_spell.specs.Front.{Fails}
 use Rattle.bb_canon.specs.Along.{clock_text}

@@ -3,8 +3,8 @@ use Rattle.bb_base.specs.Named.{design_of}
 use Rattle.bb_canon.specs.declared.draft.CanonFault.TheVariants.{Line, Unfit}
 use Rattle.bb_canon.proofs.Designs.{one_design, names_no_line, err_same}
 use Rattle.bb_spell.proofs.Texts.{design_text, buildable_numbered}
-use Rattle.bb_lines.proofs.Told.{told, told_right}
-use Rattle.bb_lines.proofs.Standing.{text_stands}
+use Rattle.bb_spell.proofs.Told.{told, told_right}
+use Rattle.bb_spell.proofs.Standing.{text_stands}
 use Rattle.bb_canon.proofs.read.read_canonical.Goals as goal
 
 pub returns-in-Ok-clause-same : goal.returns-in-Ok-clause-same

@@ -1,7 +1,7 @@
 use Rattle.std.proofs.Common.{◌≡◌, ℕ, Result, Ok, Err}
 use Rattle.std.specs.Prelude.{IfErr, OnErr}
 use Rattle.bb_terms.specs.Register.{IsFullMask}
-use Rattle.bb_creg.specs.declared.masks.NoFullPeriod.{NoFullPeriod}
+use Rattle.bb_gf2.specs.declared.masks.NoFullPeriod.{NoFullPeriod}
 use Rattle.bb_choose.specs.Choice.{IsUnmasked}
 use Rattle.bb_choose.specs.Coding.{HasLength}
 use Rattle.bb_choose.proofs.MaskLemmas.{unmasked}

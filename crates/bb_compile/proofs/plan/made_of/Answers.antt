@@ -1,8 +1,8 @@
 use Rattle.std.proofs.Common.{◌≡◌, ap, sym, subst, ◌∙◌, Err}
 use Rattle.bb_code.specs.declared.fault.Need.TheVariants.{Cells, Source}
 use Rattle.bb_choose.specs.declared.fault.ChoiceFault.TheVariants.{DegreeLimit}
-use Rattle.bb_say.specs.declared.refusal.PlanRefusal.TheVariants.{GateTooWide, TooFewStates, NoColumn, TooManyCycles, NoFullPeriod}
-use Rattle.bb_say.specs.declared.refusal.Refusal.TheVariants.{Plan}
+use Rattle.bb_read.specs.declared.refusal.PlanRefusal.TheVariants.{GateTooWide, TooFewStates, NoColumn, TooManyCycles, NoFullPeriod}
+use Rattle.bb_read.specs.declared.refusal.Refusal.TheVariants.{Plan}
 use Rattle.bb_compile.specs.Causes.{IsNetlistRefused}
 use Rattle.bb_compile.proofs.PlanLemmas.{source_within}
 use Rattle.bb_compile.proofs.plan.made_of.Goals as goal

@@ -12,7 +12,7 @@ use Rattle.bb_plan.specs.Layout.{LineValue, IsObservedLine}
 use Rattle.bb_plan.proofs.ChainLemmas.{item_read, at_chain, chain_long}
 use Rattle.bb_plan.proofs.LayoutLemmas.{few_links}
 use Rattle.bb_plan.proofs.ObserverLemmas.{observers_from, lines_more, lines_same}
-use Rattle.bb_fits.proofs.FirstWrong.{one_more, none_wrong}
+use Rattle.bb_plan.proofs.FirstWrong.{one_more, none_wrong}
 use Rattle.bb_plan.proofs.PlaceLemmas.{none_of}
 use Rattle.bb_plan.proofs.lines.lines_of.Goals as goal
 use Rattle.bb_plan.proofs.lines.lines_of.Goals.{then-is_observer+in-Some+in_ok-push, else-is_observer}

@@ -6,7 +6,7 @@ use Rattle.bb_terms.specs.Paths.{AtNet, Behind}
 use Rattle.bb_terms.specs.Lines.{IsStart}
 use Rattle.bb_base.proofs.Contained.{contains_at}
 use Rattle.bb_terms.proofs.NetLemmas.{d_within}
-use Rattle.bb_fits.proofs.Driven.{stands_within}
+use Rattle.bb_plan.proofs.Driven.{stands_within}
 use Rattle.bb_plan.proofs.StartLemmas.{begins_flop, begins_gate, never_input}
 use Rattle.bb_plan.proofs.lines.start_of.Goals as goal
 

@@ -2,7 +2,7 @@ use Rattle.std.proofs.Common.{◌≡◌, ◌+◌, ◌++◌, ◌∷◌, [], List,
 use Rattle.std.specs.List.{AllZip}
 use Rattle.std.proofs.lemmas.Slice.Zip.{all_zipped_more}
 use Rattle.bb_terms.specs.Valid.{SegmentValue}
-use Rattle.bb_fits.proofs.FirstWrong.{item_at, one_more, none_wrong}
+use Rattle.bb_plan.proofs.FirstWrong.{item_at, one_more, none_wrong}
 use Rattle.bb_plan.specs.Layout.{LineValue}
 use Rattle.bb_plan.specs.Coded.{IsCodedLine, IsIndependentLine, IsFirstDependent}
 use Rattle.bb_plan.proofs.PlaceLemmas.{take_next, none_of}

@@ -4,7 +4,7 @@ use Rattle.bb_terms.specs.declared.fault.PlanFault.TheVariants.{Rule}
 use Rattle.bb_terms.specs.Plan.{PlanValue, observers}
 use Rattle.bb_terms.specs.Rules.{Period}
 use Rattle.bb_terms.specs.Valid.{SegmentValue, IsRuleFault, IsValidPlan, IsSegmentOf}
-use Rattle.bb_fits.proofs.Stages.{meets_more, first_fault}
+use Rattle.bb_plan.proofs.Stages.{meets_more, first_fault}
 use Rattle.bb_plan.proofs.FaultLemmas.{valid_plan, same_fault}
 use Rattle.bb_plan.proofs.validity.validate.Goals as goal
 

@@ -2,8 +2,8 @@ use Rattle.std.proofs.Common.{◌≡◌, ◌<◌, ◌≤◌, List, length, All, 
 use Rattle.std.specs.List.{AllZip}
 use Rattle.bb_terms.specs.Plan.{observers}
 use Rattle.bb_terms.specs.Rules.{Widths, Conflicts, Codes}
-use Rattle.bb_fits.specs.Answers.{IsVerdict}
-use Rattle.bb_fits.proofs.Stages.{meets_more}
+use Rattle.bb_plan.specs.Answers.{IsVerdict}
+use Rattle.bb_plan.proofs.Stages.{meets_more}
 use Rattle.bb_plan.specs.Layout.{LineValue, IsObservedLine}
 use Rattle.bb_plan.proofs.CodingLemmas.{segments_are, codes_hold, first_dependent}
 use Rattle.bb_plan.proofs.ConflictLemmas.{sources_few, sources_low}

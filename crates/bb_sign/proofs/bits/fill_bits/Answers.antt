@@ -5,7 +5,7 @@ use Rattle.bb_base.specs.Order.{drivers}
 use Rattle.bb_base.specs.Run.{Meets}
 use Rattle.bb_base.specs.Parity.{code_bit}
 use Rattle.bb_eqn.specs.Values.{bits_at}
-use Rattle.bb_word.specs.Lanes.{lane, in_lane, state_on}
+use Rattle.bb_eqn.specs.Lanes.{lane, in_lane, state_on}
 use Rattle.bb_sign.specs.Evaluation.{EvaluationValue, CanBeEvaluated}
 use Rattle.bb_sign.proofs.EvaluationLemmas.{given_bits}
 use Rattle.bb_sign.proofs.bits.fill_bits.Goals as goal

@@ -1,7 +1,7 @@
 use Rattle.std.proofs.Common.{arith, ◌≡◌, ◌<◌, ◌^◌, ℕ, length, sym, ap, subst, ◌∙◌}
 use Rattle.bb_base.specs.Bits.{from_bits}
 use Rattle.bb_eqn.specs.Values.{bits_at}
-use Rattle.bb_word.specs.Lanes.{in_lane}
+use Rattle.bb_eqn.specs.Lanes.{in_lane}
 use Rattle.bb_sign.specs.Compactors.{CompactorValue, start_bit, line_word, taken_in}
 use Rattle.bb_sign.proofs.TakenLemmas.{taken_same}
 use Rattle.bb_sign.proofs.WordLemmas.{word_below}

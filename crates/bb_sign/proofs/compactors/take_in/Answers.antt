@@ -1,5 +1,5 @@
 use Rattle.bb_base.specs.Bits.{from_bits}
-use Rattle.bb_word.specs.Lanes.{in_lane}
+use Rattle.bb_eqn.specs.Lanes.{in_lane}
 use Rattle.bb_sign.proofs.TakenLemmas.{taken_more}
 use Rattle.bb_sign.proofs.compactors.take_in.Goals as goal
 

@@ -1,6 +1,6 @@
 use Rattle.std.proofs.Common.{◌≡◌, ◌<◌, ◌^◌}
 use Rattle.bb_base.specs.Bits.{from_bits}
-use Rattle.bb_word.specs.Lanes.{in_lane}
+use Rattle.bb_eqn.specs.Lanes.{in_lane}
 use Rattle.bb_sign.specs.Compactors.{taken_in}
 use Rattle.bb_sign.proofs.compactors.take_in.Given as goal
 

@@ -3,7 +3,7 @@ use Rattle.bb_base.specs.Net.{Gate, driven}
 use Rattle.bb_terms.specs.Support.{StartExists}
 use Rattle.bb_eqn.specs.Values.{bits_at}
 use Rattle.bb_eqn.proofs.Settled.{ins_below}
-use Rattle.bb_word.specs.Lanes.{in_lane}
+use Rattle.bb_eqn.specs.Lanes.{in_lane}
 use Rattle.bb_sign.proofs.LineLemmas.{gate_bit}
 use Rattle.bb_sign.proofs.lines.line_of.Goals as goal
 

@@ -2,7 +2,7 @@ use Rattle.std.proofs.Common.{arith, map, get_or-set_other, ap, ◌∙◌}
 use Rattle.std.proofs.lemmas.List.{length-set, take_all}
 use Rattle.bb_base.specs.Bits.{from_bits}
 use Rattle.bb_eqn.specs.Values.{bits_at}
-use Rattle.bb_word.specs.Lanes.{lane, in_lane}
+use Rattle.bb_eqn.specs.Lanes.{lane, in_lane}
 use Rattle.bb_sign.specs.Compactors.{start_bit}
 use Rattle.bb_sign.proofs.WordLemmas.{rows_more, number_front}
 use Rattle.bb_sign.proofs.lines.rows_of.Goals as goal

@@ -1,6 +1,6 @@
 use Rattle.std.proofs.Common.{◌≡◌, ◌<◌, ◌≤◌, ℕ, length, map, take, slice_index}
 use Rattle.bb_eqn.specs.Values.{bits_at}
-use Rattle.bb_word.specs.Lanes.{in_lane}
+use Rattle.bb_eqn.specs.Lanes.{in_lane}
 use Rattle.bb_sign.specs.Compactors.{start_bit}
 use Rattle.bb_sign.proofs.lines.rows_of.Given as goal
 

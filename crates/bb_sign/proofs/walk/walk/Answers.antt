@@ -5,8 +5,8 @@ use Rattle.bb_terms.specs.Register.{IsDegree, IsMask, state_after}
 use Rattle.bb_terms.specs.Plan.{PlanValue}
 use Rattle.bb_terms.specs.Rules.{Frame}
 use Rattle.bb_eqn.specs.Values.{bits_at}
-use Rattle.bb_word.specs.Lanes.{in_lane, state_on}
-use Rattle.bb_word.proofs.SourceLemmas.{state_on_after}
+use Rattle.bb_eqn.specs.Lanes.{in_lane, state_on}
+use Rattle.bb_eqn.proofs.SourceLemmas.{state_on_after}
 use Rattle.bb_sign.specs.Bits.{AreBitsAt}
 use Rattle.bb_sign.specs.Compactors.{AreSignedUntil}
 use Rattle.bb_sign.specs.Evaluation.{AreGivenBits}

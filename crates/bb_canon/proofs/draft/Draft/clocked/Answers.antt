@@ -4,7 +4,7 @@ use Rattle.bb_base.specs.Variables.{Bit}
 use Rattle.bb_base.specs.Named.{net_text}
 use Rattle.bb_base.specs.Building.{with_flop}
 use Rattle.bb_base.proofs.BitLemmas.{bit_eq_itself}
-use Rattle.bb_lines.specs.Lines.{FlopLine}
+use Rattle.bb_spell.specs.Lines.{FlopLine}
 use Rattle.bb_canon.proofs.Drawing.{clock_found, ne_clock, flop_draws, below_more}
 use Rattle.bb_canon.proofs.draft.Draft.clocked.Goals as goal
 

@@ -1,6 +1,0 @@
-use Rattle.std.proofs.Common.{take}
-use Rattle.bb_cone.specs.Cutting.{AreGathered}
-use Rattle.bb_cone.proofs.cutting.gather.Given as goal
-
-abbrev pub invariant-nets : goal.invariant-nets
-invariant-nets l = AreGathered l.table (take l.net-index l.nets) l.numbers.items

@@ -1,5 +1,0 @@
-use Rattle.std.proofs.Common.{◌≡◌, take}
-use Rattle.bb_cone.proofs.sets.numbers_of.Given as goal
-
-abbrev pub invariant-nets : goal.invariant-nets
-invariant-nets l = l.numbers.items ≡ take l.net-index l.nets

@@ -1,5 +1,0 @@
-use Rattle.bb_terms.proofs.Growth.{grows}
-use Rattle.bb_creg.proofs.laws.signature_grows.Goals as goal
-
-pub returns : goal.returns
-returns c = grows

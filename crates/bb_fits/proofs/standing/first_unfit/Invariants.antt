@@ -1,6 +1,0 @@
-use Rattle.bb_terms.specs.Rules.{Fits}
-use Rattle.bb_fits.proofs.FirstWrong.{HoldsBefore}
-use Rattle.bb_fits.proofs.standing.first_unfit.Given as goal
-
-abbrev pub invariant-cells : goal.invariant-cells
-invariant-cells l = HoldsBefore l.cells (λ i c. Fits l.netlist c) l.place

@@ -1,5 +1,0 @@
-use Rattle.bb_lines.proofs.Leading.{by_form}
-use Rattle.bb_lines.proofs.laws.lines_stand_by_their_forms.Goals as goal
-
-pub returns : goal.returns
-returns c = by_form

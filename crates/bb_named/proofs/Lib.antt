@@ -1,3 +1,0 @@
-pub mod MadeBits
-pub mod TextEnds
-pub mod ReadNames
