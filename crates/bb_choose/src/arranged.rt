@@ -10,9 +10,9 @@ ghost use Rattle.bb_choose.specs.Arranged.{AreInRange, IsArranged};
 ghost use Rattle.bb_choose.specs.Coding.{CanTakeColumns};
 
 use bb_base::Netlist;
-use bb_segment::{CutFault, cuts};
 use bb_netlist::Order;
 use bb_reg::{Grouped, cells, group};
+use bb_segment::{CutFault, cuts};
 use bb_words::Settings;
 use std::alloc::Global;
 

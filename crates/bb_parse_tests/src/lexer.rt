@@ -80,22 +80,28 @@ fn read_bytes(alloc: Global, text: &[u8]) -> Result<(String, Result<u32, LexFaul
     Ok((tokens_text(alloc, &out)?, end))
 }
 
+/// A text, the tokens that it gives, and the answer at its end.
+type Row<'a> = (&'a str, &'a str, Result<u32, LexFault>);
+
 /// The text gives these tokens and this answer, cut anywhere and byte by byte.
-fn check(
-    rt: &impl Abort,
-    alloc: Global,
-    text: &str,
-    tokens: &str,
-    end: Result<u32, LexFault>,
-) -> Result<(), AllocError> {
+fn check(rt: &impl Abort, alloc: Global, row: &Row<'_>) -> Result<(), AllocError> {
+    let (text, tokens, end) = row;
     let (spelled, answer) = read_bytes(alloc, text.as_bytes())?;
-    assert!(rt; spelled.as_str() == tokens, "{text}");
-    assert!(rt; answer == end, "{text}");
+    assert!(rt; spelled.as_str() == *tokens, "{text}");
+    assert!(rt; answer == *end, "{text}");
     for at in 0..=text.len() {
         let (front, back) = text.as_bytes().split_at(at);
         let (spelled, answer) = read_cut(alloc, front, back)?;
-        assert!(rt; spelled.as_str() == tokens, "{text}");
-        assert!(rt; answer == end, "{text}");
+        assert!(rt; spelled.as_str() == *tokens, "{text}");
+        assert!(rt; answer == *end, "{text}");
+    }
+    Ok(())
+}
+
+/// The same of each row.
+fn check_rows(rt: &impl Abort, alloc: Global, rows: &[Row<'_>]) -> Result<(), AllocError> {
+    for row in rows {
+        check(rt, alloc, row)?;
     }
     Ok(())
 }
@@ -124,9 +130,7 @@ fn the_longest_mark_is_taken(rt: HostRuntime) -> Result<(), Fail> {
         ("~", "~@1 ", Ok(1)),
         ("^", "^@1 ", Ok(1)),
     ];
-    for (text, tokens, end) in rows {
-        check(&rt, rt.alloc(), text, tokens, end)?;
-    }
+    check_rows(&rt, rt.alloc(), &rows)?;
     Ok(())
 }
 
@@ -174,9 +178,7 @@ fn a_name_is_simple_or_escaped_and_a_keyword_is_simple(rt: HostRuntime) -> Resul
             Err(LexFault::BadByte { line: 1 }),
         ),
     ];
-    for (text, tokens, end) in rows {
-        check(&rt, rt.alloc(), text, tokens, end)?;
-    }
+    check_rows(&rt, rt.alloc(), &rows)?;
     Ok(())
 }
 
@@ -197,9 +199,7 @@ fn a_number_has_digits_and_low_lines(rt: HostRuntime) -> Result<(), Fail> {
         ("1/**/'b0", "1@1 ", Err(LexFault::BadByte { line: 1 })),
         ("1$", "1@1 ", Err(LexFault::BadByte { line: 1 })),
     ];
-    for (text, tokens, end) in rows {
-        check(&rt, rt.alloc(), text, tokens, end)?;
-    }
+    check_rows(&rt, rt.alloc(), &rows)?;
     Ok(())
 }
 
@@ -220,9 +220,7 @@ fn a_constant_is_one_token(rt: HostRuntime) -> Result<(), Fail> {
         ("1'b0$", "1'0@1 ", Err(LexFault::BadByte { line: 1 })),
         ("1'b0'", "1'0@1 ", Err(LexFault::BadByte { line: 1 })),
     ];
-    for (text, tokens, end) in rows {
-        check(&rt, rt.alloc(), text, tokens, end)?;
-    }
+    check_rows(&rt, rt.alloc(), &rows)?;
     Ok(())
 }
 
@@ -252,9 +250,7 @@ fn a_constant_that_breaks_its_rule_is_a_bad_number(rt: HostRuntime) -> Result<()
         ),
         ("2147483648'b0", "", Err(LexFault::BadNumber { line: 1 })),
     ];
-    for (text, tokens, end) in rows {
-        check(&rt, rt.alloc(), text, tokens, end)?;
-    }
+    check_rows(&rt, rt.alloc(), &rows)?;
     Ok(())
 }
 
@@ -286,9 +282,7 @@ fn what_is_dropped_gives_no_token(rt: HostRuntime) -> Result<(), Fail> {
         ("`timescalE x", "", Err(LexFault::BadByte { line: 1 })),
         ("a `b", "\"a\"@1 ", Err(LexFault::BadByte { line: 1 })),
     ];
-    for (text, tokens, end) in rows {
-        check(&rt, rt.alloc(), text, tokens, end)?;
-    }
+    check_rows(&rt, rt.alloc(), &rows)?;
     Ok(())
 }
 
@@ -327,9 +321,7 @@ fn a_line_is_counted_by_its_line_feeds(rt: HostRuntime) -> Result<(), Fail> {
             Err(LexFault::OpenComment { line: 1 }),
         ),
     ];
-    for (text, tokens, end) in rows {
-        check(&rt, rt.alloc(), text, tokens, end)?;
-    }
+    check_rows(&rt, rt.alloc(), &rows)?;
     Ok(())
 }
 
@@ -419,8 +411,6 @@ fn a_constant_has_up_to_128_bits(rt: HostRuntime) -> Result<(), Fail> {
             Ok(1),
         ),
     ];
-    for (text, tokens, end) in rows {
-        check(&rt, rt.alloc(), text, tokens, end)?;
-    }
+    check_rows(&rt, rt.alloc(), &rows)?;
     Ok(())
 }

@@ -2,9 +2,9 @@
 
 use bb_base::{Driver, NetId};
 use bb_edge::MemStore;
-use bb_read::read_named;
 use bb_net::Named;
 use bb_netlist::Order;
+use bb_read::read_named;
 use std::alloc::{AllocError, Global};
 use std::test::Fail;
 

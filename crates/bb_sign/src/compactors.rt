@@ -11,8 +11,8 @@ ghost use Rattle.bb_sign.specs.Compactors.{CompactorValue, HasFewLines, IsCompac
 use crate::lines::rows_of;
 use crate::starts::starts_of;
 use bb_base::Netlist;
-use bb_terms::{Plan, Register, Start};
 use bb_eqn::{lines_at, misr_step, transpose};
+use bb_terms::{Plan, Register, Start};
 use std::alloc::{AllocError, Global};
 use std::marker::Model;
 

@@ -9,8 +9,8 @@ ghost use Rattle.bb_eqn.specs.Lanes.{lane, in_lane};
 ghost use Rattle.bb_sign.specs.Compactors.{start_bit, line_word};
 
 use bb_base::Netlist;
-use bb_terms::Start;
 use bb_eqn::gate_word;
+use bb_terms::Start;
 
 /// The bits of a line, a lane a state.
 fn line_of(netlist: &Netlist, start: Start, values: &[u64]) -> u64

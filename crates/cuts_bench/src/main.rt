@@ -6,9 +6,9 @@ ghost use Rattle.bb_base.specs.Order.{IsOrder};
 
 use bb_base::Netlist;
 use bb_canon::read_canonical;
-use bb_segment::cuts;
 use bb_net::Named;
 use bb_netlist::{Order, find_order};
+use bb_segment::cuts;
 use std::alloc::Global;
 use std::rt::Env;
 use std::time::Instant;
