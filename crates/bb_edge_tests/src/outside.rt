@@ -73,14 +73,19 @@ fn a_store_in_memory_fails_at_the_call_that_is_listed(rt: HostRuntime) -> Result
     Ok(())
 }
 
+/// Sets two names, and the first once more.
+fn set_three_times(store: &mut MemStore) -> Result<(), AllocError> {
+    store.set("a", b"one")?;
+    store.set("b", b"two")?;
+    store.set("a", b"three")
+}
+
 #[test]
 fn a_name_is_held_from_when_it_is_set(rt: HostRuntime) -> Result<(), TestFail> {
     let mut store = MemStore::new(rt.alloc(), vec![in rt.alloc()]?);
     assert!(rt; !reads(&mut store, "a"));
     assert_eq!(rt; store.get("a"), None);
-    store.set("a", b"one")?;
-    store.set("b", b"two")?;
-    store.set("a", b"three")?;
+    set_three_times(&mut store)?;
     assert!(rt; reads(&mut store, "a"));
     assert_eq!(rt; store.get("a"), Some(b"three".as_slice()));
     assert_eq!(rt; store.get("b"), Some(b"two".as_slice()));
